@@ -1,0 +1,12 @@
+pub mod Names
+pub mod PathText
+pub mod PathLaws
+pub mod State
+pub mod Effects
+pub mod Calls
+pub mod Reading
+pub mod Crash
+pub mod WellFormed
+pub mod Trail
+pub mod Output
+pub mod Codes
