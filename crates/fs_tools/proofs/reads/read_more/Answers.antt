@@ -1,0 +1,14 @@
+use Rattle.std.proofs.Common.{refl}
+use Rattle.fs_model.specs.Calls.{ReadsAt}
+use Rattle.fs_model.specs.Trail.{error_of}
+use Rattle.fs_model.proofs.Runs.{reading_since}
+use Rattle.fs_tools.proofs.Filling.{filled_ok}
+use Rattle.fs_tools.proofs.reads.read_more.Goals as goal
+
+pub returns-clause-unchanged : goal.returns-clause-unchanged
+returns-clause-unchanged g c told =
+    reading_since (ReadsAt c.args.at.now) (error_of c.read_at.result) (g.F.Fs.trail c.args.fs.now) (g.F.Fs.trail c.read_at.new.self) tt (c.read_at.ensures.steps told)
+
+pub returns-clause-filled : goal.returns-clause-filled
+returns-clause-filled g c told front =
+    filled_ok (g.F.Fs.trail c.args.fs.now).present c.args.at.now c.args.into.now c.read_at.new.into _ _ c.args.filled c.read_at.result refl c.requires.within front (c.read_at.ensures.gives told)
