@@ -1,0 +1,5 @@
+pub mod CrcPolynomial
+pub mod CrcRegister
+pub mod RecordBytes
+pub mod RecordCauses
+pub mod RecordFields

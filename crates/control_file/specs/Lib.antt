@@ -1,0 +1,3 @@
+pub mod ControlRecord
+pub mod Crc
+pub mod Version
