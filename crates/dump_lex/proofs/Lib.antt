@@ -1,0 +1,14 @@
+pub mod Runs
+pub mod Blank
+pub mod Separators
+pub mod Enclosing
+pub mod Delimited
+pub mod Digits
+pub mod Leads
+pub mod Standing
+pub mod Failing
+pub mod Names
+pub mod Places
+pub mod Readings
+pub mod Values
+pub mod Parsing
