@@ -1,0 +1,4 @@
+pub mod Errors
+pub mod Counted
+pub mod Untold
+pub mod Identities
