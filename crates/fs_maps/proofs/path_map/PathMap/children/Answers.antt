@@ -1,0 +1,14 @@
+use Rattle.std.proofs.Common.{◌≡◌, ap, sym, ◌∙◌, rules}
+use Rattle.std.specs.Map.{keys_of}
+use Rattle.std.specs.List.{filter_map}
+use Rattle.std.specs.FinMap as map
+use Rattle.fs_model.specs.PathLaws.{path_total, path_exact}
+use Rattle.fs_model.specs.Calls.{child_name}
+use Rattle.fs_maps.proofs.Entries.{entries_made}
+use Rattle.fs_maps.proofs.path_map.PathMap.children.Goals as goal
+
+pub returns : goal.returns
+returns g c =
+    let es = c.self.inside.entries.entries in
+    let all : c.loop-path.names.items ≡ filter_map (child_name c.args.dir.now) (keys_of es) = search rules in
+    all ∙ ap (λ es. filter_map (child_name c.args.dir.now) (keys_of es)) (sym (entries_made path_total path_exact es c.keys-path-items.ensures.ordered)) ∙ ap (λ m. filter_map (child_name c.args.dir.now) (map.keys m)) c.self.view_is

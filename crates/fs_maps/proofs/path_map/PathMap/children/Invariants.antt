@@ -1,0 +1,7 @@
+use Rattle.std.proofs.Common.{◌≡◌, ◌++◌}
+use Rattle.std.specs.List.{filter_map}
+use Rattle.fs_model.specs.Calls.{child_name}
+use Rattle.fs_maps.proofs.path_map.PathMap.children.Given as goal
+
+abbrev pub invariant-loop-path : goal.invariant-loop-path
+invariant-loop-path g l = l.names.items ++ filter_map (child_name l.dir) l.path-iterator ≡ filter_map (child_name l.dir) l.initial.path-iterator

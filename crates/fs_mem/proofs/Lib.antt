@@ -1,0 +1,4 @@
+pub mod Replay
+pub mod Causes
+pub mod Opens
+pub mod Faults

@@ -1,0 +1,35 @@
+use Rattle.std.proofs.Common.{refl, subst}
+use Rattle.fs_model.specs.Calls.{Lists}
+use Rattle.fs_model.specs.Trail.{error_of}
+use Rattle.fs_mem.specs.History.{Ends}
+use Rattle.fs_mem.proofs.Replay.{reads, steps}
+use Rattle.fs_mem.proofs.Causes.{cause, firm_kept, depth_kept, shallow}
+use Rattle.fs_mem.proofs.calls.MemFsFs.list.Goals as goal
+
+pub close_reading-requires-clause-wanted : goal.close_reading-requires-clause-wanted
+close_reading-requires-clause-wanted c =
+    (Lists c.args.at.now, reads c.in_ok-state.state (Lists c.args.at.now) refl c.list-names.result c.list-names.ensures.refuses)
+
+ends : goal.returns-clause-ends
+ends c =
+    let call = Lists c.args.at.now in
+    subst (λ h. Ends h call (error_of c.close_reading.result) c.close_reading.new.self) c.in_ok-state.ensures.same
+    (c.close_reading.ensures.ends call (reads c.in_ok-state.state call refl c.list-names.result c.list-names.ensures.refuses))
+
+pub returns-clause-firm : goal.returns-clause-firm
+returns-clause-firm c = firm_kept c.args.self.now c.close_reading.new.self (Lists c.args.at.now) (error_of c.close_reading.result) (ends c)
+
+pub returns-clause-depth : goal.returns-clause-depth
+returns-clause-depth c = depth_kept c.args.self.now c.close_reading.new.self (Lists c.args.at.now) (error_of c.close_reading.result) (λ e does. does) (ends c)
+
+pub returns-clause-ends : goal.returns-clause-ends
+returns-clause-ends c = ends c
+
+pub returns-clause-steps : goal.returns-clause-steps
+returns-clause-steps c _ = steps c.args.self.now c.close_reading.new.self (Lists c.args.at.now) (error_of c.close_reading.result) (ends c)
+
+pub returns-clause-cause : goal.returns-clause-cause
+returns-clause-cause c = cause c.args.self.now c.close_reading.new.self (Lists c.args.at.now) (error_of c.close_reading.result) (ends c)
+
+pub returns-clause-shallow : goal.returns-clause-shallow
+returns-clause-shallow c = shallow c.args.self.now c.close_reading.new.self c.args.at.now c.close_reading.result (ends c)

@@ -1,0 +1,5 @@
+pub mod Tree
+pub mod History
+pub mod Code
+pub mod Output
+pub mod Laws

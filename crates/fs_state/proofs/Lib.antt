@@ -1,0 +1,5 @@
+pub mod Preserved
+pub mod Ways
+pub mod Kept
+pub mod Chosen
+pub mod Imaged

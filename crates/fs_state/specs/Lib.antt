@@ -1,0 +1,4 @@
+pub mod Settled
+pub mod Wants
+pub mod Images
+pub mod Laws

@@ -1,0 +1,27 @@
+// The bytes of files.
+ghost use Rattle.std.specs.Prelude.{◌≡◌, IfOk};
+ghost use Rattle.fs_model.specs.Calls.{AreBytes};
+ghost use Rattle.fs_model.specs.Effects.{bytes_of};
+
+use fs_maps::InodeMap;
+use fs_model::Bytes;
+use std::alloc::{AllocError, Global};
+
+/// A copy of bytes.
+pub fn bytes_of_slice(alloc: Global, items: &[u8]) -> Result<Bytes, AllocError>
+    ensures value { IfOk result (λ bytes. bytes ≡ items.now) }
+    ensures bytes { AreBytes items.now }
+{
+    Ok(Bytes::new(items.to_vec(alloc)?))
+}
+
+/// The bytes of an inode, where it has any.
+pub fn bytes_in(alloc: Global, contents: &InodeMap<Bytes>, inode: u64) -> Result<Bytes, AllocError>
+    ensures value { IfOk result (λ bytes. bytes ≡ bytes_of contents.now inode) }
+    ensures bytes { IfOk result AreBytes }
+{
+    match contents.get(inode) {
+        Some(bytes) => bytes_of_slice(alloc, bytes.bytes()),
+        None => bytes_of_slice(alloc, &[]),
+    }
+}
