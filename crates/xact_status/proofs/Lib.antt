@@ -1,0 +1,4 @@
+pub mod Entries
+pub mod Noted
+pub mod FileLemmas
+pub mod OrderLemmas
