@@ -34,7 +34,7 @@ below_inside (top ∷ tops) path rest (inl (more, is)) = inl (more ++ rest, ap (
 below_inside (top ∷ tops) path rest (inr inside) = inr (below_inside tops path rest inside)
 
 -- where all directories outside are alike, so are the ways there
-blocked_alike : (tops : List Path) (m n : Names) → ((path : Path) → IsOutside tops path → get m path ≡ get n path) → (done rest : Path) → IsOutside tops (done ++ rest) → blocked_from m done rest ≡ blocked_from n done rest
+pub blocked_alike : (tops : List Path) (m n : Names) → ((path : Path) → IsOutside tops path → get m path ≡ get n path) → (done rest : Path) → IsOutside tops (done ++ rest) → blocked_from m done rest ≡ blocked_from n done rest
 blocked_alike tops m n alike done [] outside = refl
 blocked_alike tops m n alike done (name ∷ rest) outside =
     (λ i. or_else (no_dir (alike done (λ inside. outside (below_inside tops done (name ∷ rest) inside)) i)) (blocked_from m (done ++ name ∷ []) rest))

@@ -4,6 +4,8 @@
 
 mod makes;
 mod reads;
+#[cfg(test)]
+mod tests;
 
 pub use makes::make_file;
 pub use reads::read_all;
