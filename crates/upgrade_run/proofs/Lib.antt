@@ -1,0 +1,11 @@
+pub mod First
+pub mod Joined
+pub mod Free
+pub mod Phases
+pub mod WordFaults
+pub mod NamedNext
+pub mod Passing
+pub mod Carrying
+pub mod Crashes
+pub mod Pieces
+pub mod Ends

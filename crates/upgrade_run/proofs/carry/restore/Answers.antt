@@ -1,0 +1,45 @@
+use Rattle.std.proofs.Common.{◌≡◌, ◌∙◌, ◌∷◌, [], ◌++◌, ap, sym, subst, None}
+use Rattle.std.specs.Prelude.{codes}
+use Rattle.std.specs.FinMap.{get}
+use Rattle.fs_model.specs.declared.effect.Effect.TheVariants.{NewDir}
+use Rattle.fs_model.specs.Names.{Path, parent}
+use Rattle.fs_model.specs.State.{FsState}
+use Rattle.fs_model.specs.Effects.{apply}
+use Rattle.fs_model.specs.Calls.{MakesDir, Creates, refusal, device_of}
+use Rattle.fs_model.specs.Trail.{error_of}
+use Rattle.fs_model.proofs.Runs.{since_then, present_after}
+use Rattle.crash_safety.specs.Frame.{Within}
+use Rattle.crash_safety.proofs.Keeping.{within_start}
+use Rattle.crash_safety.proofs.Runs.{call_since, since_within_then, inside_of, inside_itself}
+use Rattle.upgrade_run.proofs.Free.{free_in_new, never_refused}
+use Rattle.upgrade_run.proofs.carry.restore.Goals as goal
+
+pub returns-in_err-make_dir-clause-frame : goal.returns-in_err-make_dir-clause-frame
+returns-in_err-make_dir-clause-frame g c told =
+    let old = g.F.Fs.trail c.args.fs.now in
+    let tops = c.args.database.now ∷ [] in
+    call_since tops old.present (MakesDir c.args.database.now) (error_of c.make_dir.result) old (g.F.Fs.trail c.make_dir.new.self) (within_start tops old.present) (inside_itself c.args.database.now) (c.make_dir.ensures.steps told)
+
+pub returns-clause-frame : goal.returns-clause-frame
+returns-clause-frame g c told =
+    let old = g.F.Fs.trail c.args.fs.now in
+    let mid = g.F.Fs.trail c.make_dir.new.self in
+    let new = g.F.Fs.trail c.make_file.new.fs in
+    let tops = c.args.database.now ∷ [] in
+    let inner = c.args.version.now ∷ [] in
+    let first = call_since tops old.present (MakesDir c.args.database.now) (error_of c.make_dir.result) old mid (within_start tops old.present) (inside_itself c.args.database.now) (c.make_dir.ensures.steps told) in
+    since_then (Within tops old.present) old mid new first
+    (since_within_then tops inner (inside_of c.args.database.now c.args.version.now (codes "PG_VERSION" ∷ []) c.requires) old.present mid new first.present (c.make_file.ensures.frame (c.make_dir.ensures.told ∙ told)))
+
+pub returns-clause-allowed : goal.returns-clause-allowed
+returns-clause-allowed g c told free none =
+    let old = g.F.Fs.trail c.args.fs.now in
+    let mid = g.F.Fs.trail c.make_dir.new.self in
+    let s = old.present in
+    let (effect, ok, is, present) = present_after (MakesDir c.args.database.now) old mid (c.in_ok-make_dir.ensures.steps told) in
+    let device = device_of s (parent c.args.database.now) in
+    let made : mid.present ≡ apply s (NewDir c.args.database.now device) = present ∙ ap (apply s) is in
+    let version : c.args.version.now ≡ c.args.database.now ++ codes "PG_VERSION" ∷ [] = c.requires in
+    let here : refusal (apply s (NewDir c.args.database.now device)) (Creates (c.args.database.now ++ codes "PG_VERSION" ∷ [])) ≡ None =
+    free_in_new s c.args.database.now (codes "PG_VERSION") device free (ap (get s.names) (sym version) ∙ none) in
+    never_refused (refusal mid.present (Creates c.args.version.now)) c.make_file.result ((λ i. refusal (made i) (Creates (version i))) ∙ here) (c.make_file.ensures.decided (c.make_dir.ensures.told ∙ told))

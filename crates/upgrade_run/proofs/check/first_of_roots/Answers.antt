@@ -1,0 +1,11 @@
+use Rattle.std.proofs.Common.{◌∙◌}
+use Rattle.fs_model.proofs.Runs.{unchanged_then}
+use Rattle.upgrade_run.proofs.check.first_of_roots.Goals as goal
+
+pub returns-in_err-old_version-clause-unchanged : goal.returns-in_err-old_version-clause-unchanged
+returns-in_err-old_version-clause-unchanged g c told =
+    unchanged_then (g.F.Fs.trail c.args.fs.now) (g.F.Fs.trail c.two_kinds.new.fs) (g.F.Fs.trail c.two_files.new.fs) (c.two_kinds.ensures.unchanged told) (c.two_files.ensures.unchanged (c.two_kinds.ensures.told ∙ told))
+
+pub returns-clause-unchanged : goal.returns-clause-unchanged
+returns-clause-unchanged g c told =
+    unchanged_then (g.F.Fs.trail c.args.fs.now) (g.F.Fs.trail c.two_kinds.new.fs) (g.F.Fs.trail c.two_files.new.fs) (c.two_kinds.ensures.unchanged told) (c.two_files.ensures.unchanged (c.two_kinds.ensures.told ∙ told))

@@ -1,0 +1,16 @@
+use Rattle.std.proofs.Common.{◌≡◌, ◌≤◌, ◌++◌, ◌∙◌, true, Ok, arith}
+use Rattle.fs_model.specs.Output.{SinkCounts}
+use Rattle.upgrade_run.proofs.NamedNext.{named_next}
+use Rattle.upgrade_run.proofs.lines.put_path.Goals as goal
+
+pub loop-name-preserved : goal.loop-name-preserved
+loop-name-preserved g c = record {
+  told = c.in_ok-put_name.ensures.told ∙ c.loop-name.invariant.told;
+  appended = λ told. let is = c.name-item.is in named_next c.names-names.result.now c.loop-name.name-index _ (g.K.Sink.written c.args.out.now) (g.K.Sink.written c.loop-name.out) (g.K.Sink.written c.put_name.new.out)
+      c.loop-name-test.true c.name-item.is (c.loop-name.invariant.appended told) (c.in_ok-put_name.ensures.appended (c.loop-name.invariant.told ∙ told));
+  cause = record {
+    faults = (let a = c.loop-name.invariant.cause.faults in let b = c.put_name.ensures.cause.faults in omega arith);
+    lacks = (let a = c.loop-name.invariant.cause.lacks in let b = c.put_name.ensures.cause.lacks in omega arith);
+    rose = tt;
+  };
+}

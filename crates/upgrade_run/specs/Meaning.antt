@@ -1,0 +1,118 @@
+-- What each answer of an upgrade means, and which answers there may be.
+use Rattle.std.specs.Prelude.{◌≡◌, ◌≢◌, ◌⊎◌, Bool, true, List, [], ◌∷◌, Option, Some, None, Result, Ok, Err, String}
+use Rattle.std.specs.Global.{Global}
+use Rattle.fs_model.specs.declared.error.FsError.{FsError}
+use Rattle.fs_model.specs.declared.error.FsError.TheVariants as error
+use Rattle.fs_model.specs.Names.{Path}
+use Rattle.fs_model.specs.State.{FsState}
+use Rattle.fs_model.specs.Trail.{Counts, Rose}
+use Rattle.control_file.specs.declared.job.Job.{Job}
+use Rattle.upgrade_run.specs.declared.answer.PhaseName.{PhaseName}
+use Rattle.upgrade_run.specs.declared.answer.PhaseName.TheVariants.{Words, Check, Restore, Transfer}
+use Rattle.upgrade_run.specs.declared.answer.Change.TheVariants as change
+use Rattle.upgrade_run.specs.declared.answer.Answer.{Answer}
+use Rattle.upgrade_run.specs.declared.answer.Answer.TheVariants.{Done, Usage, Refused, FsFault, NoMemory, Moved}
+use Rattle.upgrade_run.specs.declared.answer.Summary.{Summary}
+use Rattle.upgrade_run.specs.declared.carry.CarryFault.{CarryFault}
+use Rattle.upgrade_run.specs.declared.refusal.Refusal.{Refusal}
+use Rattle.upgrade_run.specs.Words.{Word, Accepts}
+use Rattle.upgrade_run.specs.Refusals.{IsFirst, Passes}
+use Rattle.upgrade_run.specs.Upgraded.{Upgraded}
+
+-- the phases that change nothing
+abbrev pub IsEarly : PhaseName → Type 0
+IsEarly Words = Unit {0}
+IsEarly Check = Unit {0}
+IsEarly Restore = ⊥
+IsEarly Transfer = ⊥
+
+-- the answers after which nothing was changed
+abbrev pub LeavesAll : Answer → Type 0
+LeavesAll (Done summary) = ⊥
+LeavesAll (Usage position) = Unit {0}
+LeavesAll (Refused refusal) = Unit {0}
+LeavesAll (FsFault phase) = IsEarly phase
+LeavesAll (NoMemory phase) = IsEarly phase
+LeavesAll (Moved root change) = ⊥
+
+abbrev pub IsDone : Answer → Type 0
+IsDone (Done summary) = Unit {0}
+IsDone (Usage position) = ⊥
+IsDone (Refused refusal) = ⊥
+IsDone (FsFault phase) = ⊥
+IsDone (NoMemory phase) = ⊥
+IsDone (Moved root change) = ⊥
+
+abbrev pub IsNoMemory : Answer → Type 0
+IsNoMemory (Done summary) = ⊥
+IsNoMemory (Usage position) = ⊥
+IsNoMemory (Refused refusal) = ⊥
+IsNoMemory (FsFault phase) = ⊥
+IsNoMemory (NoMemory phase) = Unit {0}
+IsNoMemory (Moved root change) = ⊥
+
+abbrev pub IsUsage : Answer → Type 0
+IsUsage (Done summary) = ⊥
+IsUsage (Usage position) = Unit {0}
+IsUsage (Refused refusal) = ⊥
+IsUsage (FsFault phase) = ⊥
+IsUsage (NoMemory phase) = ⊥
+IsUsage (Moved root change) = ⊥
+
+abbrev pub IsFsFault : Answer → Type 0
+IsFsFault (Done summary) = ⊥
+IsFsFault (Usage position) = ⊥
+IsFsFault (Refused refusal) = ⊥
+IsFsFault (FsFault phase) = Unit {0}
+IsFsFault (NoMemory phase) = ⊥
+IsFsFault (Moved root change) = ⊥
+
+abbrev pub IsMoved : Answer → Type 0
+IsMoved (Done summary) = ⊥
+IsMoved (Usage position) = ⊥
+IsMoved (Refused refusal) = ⊥
+IsMoved (FsFault phase) = ⊥
+IsMoved (NoMemory phase) = ⊥
+IsMoved (Moved root change) = Unit {0}
+
+-- the databases, tables and files of the one form of clusters that is carried as yet
+abbrev pub first_summary : Summary
+first_summary = record { databases = 4; tables = 1; files = 1 }
+
+-- what an answer says of the state s that the upgrade of the job began in, and of the state x that it ended in
+abbrev pub Means : FsState → Job → Answer → FsState → Type 0
+Means s job (Done summary) x = Passes s job × Upgraded s job x × (summary ≡ first_summary)
+Means s job (Usage position) x = ⊥
+Means s job (Refused refusal) x = IsFirst s job refusal
+Means s job (FsFault phase) x = Unit {0}
+Means s job (NoMemory phase) x = Unit {0}
+Means s job (Moved root change) x = ⊥
+
+-- what there is to answer where the file system doesn't fail, but for want of memory
+pub record Completes (s : FsState) (job : Job) (answer : Answer) : Type 0 where
+  pub refused : (refusal : Refusal) → IsFirst s job refusal → (answer ≡ Refused refusal) ⊎ IsNoMemory answer
+  pub done : Passes s job → IsDone answer ⊎ IsNoMemory answer
+
+-- A fault of the file system was counted in this run, and comes in a phase that calls it. A change by somebody else
+-- was a refusal, and is told of the new cluster.
+abbrev pub HasOwnCause : Path → Answer → Counts → Counts → Type 0
+HasOwnCause new (FsFault phase) before now = (phase ≢ Words) × Rose before.faults now.faults
+HasOwnCause new (Moved root change) before now = (root ≡ new) × Rose before.refusals now.refusals
+HasOwnCause new (Done summary) before now = Unit {0}
+HasOwnCause new (Usage position) before now = ⊥
+HasOwnCause new (Refused refusal) before now = Unit {0}
+HasOwnCause new (NoMemory phase) before now = Unit {0}
+
+-- the answer after a fault in carrying
+abbrev pub AnswersFault : Path → CarryFault → Answer → Type 0
+AnswersFault new fault (Done summary) = ⊥
+AnswersFault new fault (Usage position) = ⊥
+AnswersFault new fault (Refused refusal) = ⊥
+AnswersFault new fault (FsFault phase) = (phase ≡ fault.at) × (fault.error ≡ error.Failed)
+AnswersFault new fault (NoMemory phase) = phase ≡ fault.at
+AnswersFault new fault (Moved root (change.Refused found)) = (root ≡ new) × (found ≡ fault.error) × (fault.error ≢ error.Failed) × (fault.error ≢ error.OutOfMemory)
+
+-- the answer after carrying
+abbrev pub AnswersCarry : Path → Result (Unit {0}) CarryFault → Answer → Type 0
+AnswersCarry new (Ok value) answer = answer ≡ Done first_summary
+AnswersCarry new (Err fault) answer = AnswersFault new fault answer

@@ -1,0 +1,66 @@
+// Why an upgrade is refused.
+use control_file::Side;
+use fs_model::Path;
+
+/// A field in which both control files must agree.
+#[derive(Clone, Copy, Debug, PartialEq, Eq)]
+pub enum ControlField {
+    /// `maxAlign`
+    MaxAlign,
+    /// `blcksz`
+    BlckSz,
+    /// `relseg_size`
+    RelSegSize,
+    /// `xlog_blcksz`
+    XlogBlckSz,
+    /// `xlog_seg_size`
+    XlogSegSize,
+    /// `nameDataLen`
+    NameDataLen,
+    /// `indexMaxKeys`
+    IndexMaxKeys,
+    /// `toast_max_chunk_size`
+    ToastChunk,
+    /// `loblksize`
+    LoblkSize,
+    /// `data_checksum_version`
+    Checksums,
+}
+
+/// Why an upgrade is refused. The first condition that holds, in this order, is answered; within one, the old side before
+/// the new one. A refused upgrade has changed nothing.
+#[derive(Drop)]
+pub enum Refusal {
+    /// One of the two data directories is under the other, or they are the same.
+    Overlap,
+    /// The data directory is no directory.
+    MissingDir(Side),
+    /// `PG_VERSION` is no file.
+    MissingVersion(Side),
+    /// `PG_VERSION` is not that of the side's release.
+    WrongVersion(Side),
+    /// `postmaster.pid` stands.
+    Running(Side),
+    /// The old cluster has no `global/pg_control` and has `global/pg_control.old`.
+    OldDisabled,
+    /// `global/pg_control` is no file.
+    NoControl(Side),
+    /// The control file has fewer than 296 bytes.
+    ControlShort(Side),
+    /// The control file's CRC is wrong.
+    ControlCrc(Side),
+    /// The control file's version is this and not 1300.
+    ControlVersion(Side, u32),
+    /// The control file's catalog version is this and not the release's.
+    CatalogVersion(Side, u32),
+    /// The cluster's state is this and not 1, shut down.
+    NotShutDown(Side, u32),
+    /// The block size is not 8192, or a segment has no blocks.
+    BlockSize(Side),
+    /// A field is one number in the old control file and another in the new one.
+    ControlDiffers(ControlField, u32, u32),
+    /// The upgrade of clusters of this form is not built yet.
+    NotYet,
+    /// A relation's file is missing or no file.
+    MissingFile(Path),
+}

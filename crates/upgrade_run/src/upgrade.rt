@@ -1,0 +1,155 @@
+// The whole of an upgrade.
+ghost use Rattle.std.specs.Prelude.{◌≡◌, ◌⊎◌, ◌++◌, [], ◌∷◌, ℕ, true, None};
+ghost use Rattle.fs_model.specs.Crash.{Settled};
+ghost use Rattle.fs_model.specs.WellFormed.{WellFormed};
+ghost use Rattle.fs_model.specs.Trail.{Since, Unchanged, EachCrash, HasCause, Rose};
+ghost use Rattle.crash_safety.specs.Frame.{Within};
+ghost use Rattle.crash_safety.specs.Upgrade.{OldKept};
+ghost use Rattle.control_file.specs.declared.job.Job.{Job as AJob};
+ghost use Rattle.upgrade_run.specs.Words.{Accepts, IsFaultAt, texts};
+ghost use Rattle.upgrade_run.specs.Places.{database_path};
+ghost use Rattle.upgrade_run.specs.AllPlaces.{old_places_for, new_places_for};
+ghost use Rattle.upgrade_run.specs.Carrying.{CanCarry, Carries};
+ghost use Rattle.upgrade_run.specs.Meaning.{LeavesAll, IsDone, IsNoMemory, IsMoved, IsUsage, IsFsFault, first_summary, Means, Completes, HasOwnCause, AnswersFault, AnswersCarry};
+ghost use Rattle.upgrade_run.specs.Lines.{lines_of, PrintedRose};
+
+use crate::carry::{CarryFault, carry};
+use crate::check::first_refusal;
+use crate::lines::put_lines;
+use crate::places::{NewPlaces, OldPlaces, new_places, old_places};
+use crate::seen::Stop;
+use crate::words::{WordsError, read_words};
+use crate::{Answer, Change, Outcome, PhaseName, Printed, Summary};
+use control_file::Job;
+use fs_model::{Fs, FsError, Sink};
+use std::alloc::Global;
+
+// The answer after a fault in carrying.
+fn fault_answer(job: &Job, fault: CarryFault) -> Answer
+    ensures { AnswersFault job.now.new fault result }
+{
+    match fault.error {
+        FsError::Failed => Answer::FsFault(fault.at),
+        FsError::OutOfMemory => Answer::NoMemory(fault.at),
+        error => match job.new.copy() {
+            Ok(root) => Answer::Moved(root, Change::Refused(error)),
+            Err(_) => Answer::NoMemory(fault.at),
+        },
+    }
+}
+
+// The answer after carrying.
+fn carry_answer(job: &Job, carried: Result<(), CarryFault>) -> Answer
+    ensures { AnswersCarry job.now.new carried result }
+{
+    match carried {
+        Ok(()) => Answer::Done(Summary {
+            databases: 4,
+            tables: 1,
+            files: 1,
+        }),
+        Err(fault) => fault_answer(job, fault),
+    }
+}
+
+// Carries what has passed the checks, and answers.
+fn carried<F: Fs>(alloc: Global, fs: &mut F, job: &Job, old: &OldPlaces, new: &NewPlaces) -> Answer
+    requires old { old.now ≡ old_places_for job.now.old }
+    requires new { new.now ≡ new_places_for job.now.new }
+    ensures told { F.told fs.new ≡ F.told fs.old }
+    ensures firm { F.firm fs.new ≡ F.firm fs.old }
+    ensures frame { F.told fs.old ≡ true → Since (Within (database_path job.now.new ∷ []) (F.trail fs.old).present) (F.trail fs.old) (F.trail fs.new) }
+    ensures done { F.told fs.old ≡ true → IsDone result → Carries (F.trail fs.old).present job.now (F.trail fs.new).present × (result ≡ Answer.Done first_summary) }
+    ensures allowed { F.told fs.old ≡ true → CanCarry (F.trail fs.old).present job.now → IsMoved result → ⊥ }
+    ensures ends { F.told fs.old ≡ true → CanCarry (F.trail fs.old).present job.now → (Rose (F.counts fs.old).faults (F.counts fs.new).faults → ⊥) → IsDone result ⊎ IsNoMemory result }
+    ensures late { LeavesAll result → ⊥ }
+    ensures own_cause { HasOwnCause job.now.new result (F.counts fs.old) (F.counts fs.new) }
+    ensures counts { HasCause (F.firm fs.old) (F.counts fs.old) (F.counts fs.new) None }
+    ensures sound { F.firm fs.old ≡ true → IsFsFault result → ⊥ }
+{
+    carry_answer(job, carry(alloc, fs, job, old, new))
+}
+
+// Checks the two clusters and carries the one into the other.
+fn upgrade<F: Fs>(alloc: Global, fs: &mut F, job: &Job) -> Answer
+    requires well_formed { F.told fs.old ≡ true → WellFormed (F.trail fs.old).present }
+    ensures told { F.told fs.new ≡ F.told fs.old }
+    ensures firm { F.firm fs.new ≡ F.firm fs.old }
+    ensures unchanged { F.told fs.old ≡ true → LeavesAll result → Unchanged (F.trail fs.old) (F.trail fs.new) }
+    ensures means { F.told fs.old ≡ true → Means (F.trail fs.old).present job.now result (F.trail fs.new).present }
+    ensures completes { F.told fs.old ≡ true → (Rose (F.counts fs.old).faults (F.counts fs.new).faults → ⊥) → Completes (F.trail fs.old).present job.now result }
+    ensures crashes { F.told fs.old ≡ true → Settled (F.trail fs.old).present → EachCrash (OldKept (F.trail fs.old).present (job.now.old ∷ [])) (F.trail fs.old) (F.trail fs.new) }
+    ensures own_cause { HasOwnCause job.now.new result (F.counts fs.old) (F.counts fs.new) }
+    ensures counts { HasCause (F.firm fs.old) (F.counts fs.old) (F.counts fs.new) None }
+    ensures sound { F.firm fs.old ≡ true → IsFsFault result → ⊥ }
+{
+    let Ok(old) = old_places(&job.old) else {
+        return Answer::NoMemory(PhaseName::Check);
+    };
+    let Ok(new) = new_places(&job.new) else {
+        return Answer::NoMemory(PhaseName::Check);
+    };
+    match first_refusal(alloc, fs, job, &old, &new) {
+        Ok(Some(refusal)) => Answer::Refused(refusal),
+        Ok(None) => carried(alloc, fs, job, &old, &new),
+        Err(Stop::Failed) => Answer::FsFault(PhaseName::Check),
+        Err(Stop::OutOfMemory) => Answer::NoMemory(PhaseName::Check),
+    }
+}
+
+// Reads the words, and does what they ask for.
+fn answer<F: Fs>(alloc: Global, words: &[String], fs: &mut F) -> Answer
+    ensures told { F.told fs.new ≡ F.told fs.old }
+    ensures firm { F.firm fs.new ≡ F.firm fs.old }
+    ensures usage { (position : ℕ) → result ≡ Answer.Usage position → IsFaultAt (texts words.now) position }
+    ensures asked { IsUsage result ⊎ (result ≡ Answer.NoMemory PhaseName.Words) ⊎ ((job : AJob) × Accepts (texts words.now) job) }
+    ensures unchanged { F.told fs.old ≡ true → LeavesAll result → Unchanged (F.trail fs.old) (F.trail fs.new) }
+    ensures means { F.told fs.old ≡ true → (job : AJob) → Accepts (texts words.now) job → Means (F.trail fs.old).present job result (F.trail fs.new).present }
+    ensures completes { F.told fs.old ≡ true → (Rose (F.counts fs.old).faults (F.counts fs.new).faults → ⊥) → (job : AJob) → Accepts (texts words.now) job → Completes (F.trail fs.old).present job result }
+    ensures crashes { F.told fs.old ≡ true → Settled (F.trail fs.old).present → (job : AJob) → Accepts (texts words.now) job → EachCrash (OldKept (F.trail fs.old).present (job.old ∷ [])) (F.trail fs.old) (F.trail fs.new) }
+    ensures own_cause { (job : AJob) → Accepts (texts words.now) job → HasOwnCause job.new result (F.counts fs.old) (F.counts fs.new) }
+    ensures counts { HasCause (F.firm fs.old) (F.counts fs.old) (F.counts fs.new) None }
+    ensures sound { F.firm fs.old ≡ true → IsFsFault result → ⊥ }
+{
+    // A file system that tells its state tells with this that it is well-formed.
+    let _ = fs.moment();
+    match read_words(alloc, words) {
+        Ok(job) => upgrade(alloc, fs, &job),
+        Err(WordsError::Usage(position)) => Answer::Usage(position),
+        Err(WordsError::OutOfMemory) => Answer::NoMemory(PhaseName::Words),
+    }
+}
+
+/// Upgrades the cluster that the words name into the new one that they name, and prints the answer's lines.
+///
+/// The words are `-d OLD -D NEW`. Both clusters are checked first; where a condition of `Refusal` holds, the first one is
+/// answered and nothing is changed. Then the new cluster gets the old one's database, table and rows, in files of its own.
+///
+/// Its contract, in the order of its clauses: a usage fault is at the first word that begins no command line; after
+/// `Usage` and `Refused`, and where the file system failed or memory lacked up to the end of the checks, nothing was
+/// changed; `Done` comes only where no condition of a refusal held, and then the table's new file has the old one's
+/// bytes, no name that stood before is changed and no file that stood before is shared; `Refused` has the first
+/// condition that held; where the file system doesn't fail, memory alone may keep a run from these answers; at every
+/// crash at any moment of the run the old data directory has its names, nodes and bytes of the beginning, if all of
+/// them were on the disk then; a fault is answered only where the file system failed in this run, and in no other phase
+/// than those that call it.
+pub fn run<F: Fs, K: Sink>(alloc: Global, words: &[String], fs: &mut F, out: &mut K) -> Outcome
+    ensures told { F.told fs.new ≡ F.told fs.old }
+    ensures firm { F.firm fs.new ≡ F.firm fs.old }
+    ensures usage { (position : ℕ) → result.answer ≡ Answer.Usage position → IsFaultAt (texts words.now) position }
+    ensures asked { IsUsage result.answer ⊎ (result.answer ≡ Answer.NoMemory PhaseName.Words) ⊎ ((job : AJob) × Accepts (texts words.now) job) }
+    ensures unchanged { F.told fs.old ≡ true → LeavesAll result.answer → Unchanged (F.trail fs.old) (F.trail fs.new) }
+    ensures means { F.told fs.old ≡ true → (job : AJob) → Accepts (texts words.now) job → Means (F.trail fs.old).present job result.answer (F.trail fs.new).present }
+    ensures completes { F.told fs.old ≡ true → (Rose (F.counts fs.old).faults (F.counts fs.new).faults → ⊥) → (job : AJob) → Accepts (texts words.now) job → Completes (F.trail fs.old).present job result.answer }
+    ensures crashes { F.told fs.old ≡ true → Settled (F.trail fs.old).present → (job : AJob) → Accepts (texts words.now) job → EachCrash (OldKept (F.trail fs.old).present (job.old ∷ [])) (F.trail fs.old) (F.trail fs.new) }
+    ensures own_cause { (job : AJob) → Accepts (texts words.now) job → HasOwnCause job.new result.answer (F.counts fs.old) (F.counts fs.new) }
+    ensures counts { HasCause (F.firm fs.old) (F.counts fs.old) (F.counts fs.new) None }
+    ensures sound { F.firm fs.old ≡ true → IsFsFault result.answer → ⊥ }
+    ensures sink_told { K.told out.new ≡ K.told out.old }
+    ensures whole { K.told out.old ≡ true → result.printed ≡ Printed.Whole → K.written out.new ≡ K.written out.old ++ lines_of result.answer }
+    ensures printed { PrintedRose result.printed (K.counts out.old) (K.counts out.new) }
+{
+    let answer = answer(alloc, words, fs);
+    let printed = put_lines(out, &answer);
+    Outcome { answer, printed }
+}
