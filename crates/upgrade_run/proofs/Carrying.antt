@@ -94,9 +94,9 @@ module _ (s : FsState) (job : Job) (x : FsState) (well_formed : WellFormed s) (c
 
       j_free : get s.bytes j ≡ None
       j_free = elim (get s.bytes j) as (λ found. get s.bytes j ≡ found → found ≡ None) [
-          None ↦ λ _. refl
+        | None ↦ λ _. refl
         | Some bytes ↦ λ e. (let there = kept_there j (ap is_some e) in absurd (cc (there, e, j_new)))
-        ] refl
+      ] refl
 
       i_bytes : get restored.bytes i ≡ Some new_version
       i_bytes = ap (λ (c : Contents). get c i) restored_bytes ∙ insert_here (insert s.bytes i []) i new_version

@@ -288,8 +288,8 @@ module _ (s : FsState) (job : Job) where
   pub first_found : (refusal : Refusal) → IsFirst s job refusal → first_of s job order ≡ Some refusal
   first_found refusal first =
       elim (first_of s job order) as (λ f. first_of s job order ≡ f → f ≡ Some refusal) [
-        None ↦ λ e. absurd (none_passes e refusal first.holds)
-      | Some found ↦ λ e. same found (found_first found e)
+        | None ↦ λ e. absurd (none_passes e refusal first.holds)
+        | Some found ↦ λ e. same found (found_first found e)
       ] refl
     where
       same : (found : Refusal) → IsFirst s job found → Some found ≡ Some refusal

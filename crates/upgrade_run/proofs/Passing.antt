@@ -32,8 +32,8 @@ comparable (x ∷ a) [] r t same = inr (x ∷ a, refl)
 comparable (x ∷ a) (y ∷ b) r t same =
     let head : x ≡ y = cc same in
     elim (comparable a b r t (cc same)) as (λ _. IsUnder (x ∷ a) (y ∷ b) ⊎ IsUnder (y ∷ b) (x ∷ a)) [
-      inl (rest, is) ↦ inl (rest, (λ i. sym head i ∷ is i))
-    | inr (rest, is) ↦ inr (rest, (λ i. head i ∷ is i))
+      | inl (rest, is) ↦ inl (rest, (λ i. sym head i ∷ is i))
+      | inr (rest, is) ↦ inr (rest, (λ i. head i ∷ is i))
     ]
 
 if_none : (test : Bool) (refusal : Refusal) → (if test then Some refusal else None) ≡ None → test ≡ false
@@ -80,11 +80,11 @@ file_stands contents path (Some (Sym target)) none = absurd (cc none)
 none_below : (names : Names) → IsTree names → (dir : Path) (name : List ℕ) → get names dir ≡ None → get names (dir ++ name ∷ []) ≡ None
 none_below names tree dir name none =
     elim (get names (dir ++ name ∷ [])) as (λ found. get names (dir ++ name ∷ []) ≡ found → found ≡ None) [
-      None ↦ λ _. refl
-    | Some node ↦ λ stands.
-        (let way : or_else (blocked names dir) (no_dir (get names dir)) ≡ None = sym (blocked_push names dir name) ∙ tree (dir ++ name ∷ []) (ap is_some stands) in
-        let there : get names dir ≡ Some Dir = no_dir_none (get names dir) (none_second (blocked names dir) (no_dir (get names dir)) way) in
-        absurd (cc (none, there)))
+      | None ↦ λ _. refl
+      | Some node ↦ λ stands.
+          (let way : or_else (blocked names dir) (no_dir (get names dir)) ≡ None = sym (blocked_push names dir name) ∙ tree (dir ++ name ∷ []) (ap is_some stands) in
+          let there : get names dir ≡ Some Dir = no_dir_none (get names dir) (none_second (blocked names dir) (no_dir (get names dir)) way) in
+          absurd (cc (none, there)))
     ] refl
 
 module _ (s : FsState) (job : Job) (passes : Passes s job) where
@@ -93,10 +93,10 @@ module _ (s : FsState) (job : Job) (passes : Passes s job) where
 
   -- neither data directory is under the other
   not_under : (IsUnder job.new job.old → ⊥) × (IsUnder job.old job.new → ⊥)
-  not_under =
-      ( (λ under. (let is : is_under job.new job.old ≡ true = is_under_made job.new job.old under in let no = or_first_false (is_under job.new job.old) (is_under job.old job.new) apart in cc (is, no)))
-      , (λ under. (let is : is_under job.old job.new ≡ true = is_under_made job.old job.new under in let no = or_second_false (is_under job.new job.old) (is_under job.old job.new) apart in cc (is, no)))
-      )
+  not_under = (
+    (λ under. (let is : is_under job.new job.old ≡ true = is_under_made job.new job.old under in let no = or_first_false (is_under job.new job.old) (is_under job.old job.new) apart in cc (is, no))),
+    (λ under. (let is : is_under job.old job.new ≡ true = is_under_made job.old job.new under in let no = or_second_false (is_under job.new job.old) (is_under job.old job.new) apart in cc (is, no))),
+  )
 
   -- what is in the old cluster is not in the new database
   pub old_apart : (path : Path) → IsInside (job.old ∷ []) path → IsOutside (database_path job.new ∷ []) path

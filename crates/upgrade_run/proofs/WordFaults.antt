@@ -6,50 +6,65 @@ use Rattle.control_file.specs.declared.job.Job.{Job}
 use Rattle.control_file.specs.declared.modes.Mode.TheVariants.{Copy}
 use Rattle.upgrade_run.specs.Words.{Word, NamesDirectory, Accepts, Begins, IsFaultAt, IsWordAt, DirectoryAt}
 
-
 -- the root, by which any line can be ended
 root_named : NamesDirectory (codes "/") []
 root_named = record { short = omega arith; read = refl }
 
 begins_1 : (w : Word) → w ≡ codes "-d" → Begins (w ∷ [])
-begins_1 w is = (codes "/" ∷ codes "-D" ∷ codes "/" ∷ [], record { old = []; new = []; mode = Copy }, record {
+begins_1 w is = (
+  codes "/" ∷ codes "-D" ∷ codes "/" ∷ [],
+  record { old = []; new = []; mode = Copy },
+  record {
     old_word = codes "/";
     new_word = codes "/";
     are = ap (λ v. v ∷ codes "/" ∷ codes "-D" ∷ codes "/" ∷ []) is;
     old = root_named;
     new = root_named;
     mode = refl;
-  })
+  },
+)
 
 begins_2 : (w v : Word) (dir : Path) → w ≡ codes "-d" → NamesDirectory v dir → Begins (w ∷ v ∷ [])
-begins_2 w v dir is named = (codes "-D" ∷ codes "/" ∷ [], record { old = dir; new = []; mode = Copy }, record {
+begins_2 w v dir is named = (
+  codes "-D" ∷ codes "/" ∷ [],
+  record { old = dir; new = []; mode = Copy },
+  record {
     old_word = v;
     new_word = codes "/";
     are = ap (λ u. u ∷ v ∷ codes "-D" ∷ codes "/" ∷ []) is;
     old = named;
     new = root_named;
     mode = refl;
-  })
+  },
+)
 
 begins_3 : (w v u : Word) (dir : Path) → w ≡ codes "-d" → NamesDirectory v dir → u ≡ codes "-D" → Begins (w ∷ v ∷ u ∷ [])
-begins_3 w v u dir is named is_new = (codes "/" ∷ [], record { old = dir; new = []; mode = Copy }, record {
+begins_3 w v u dir is named is_new = (
+  codes "/" ∷ [],
+  record { old = dir; new = []; mode = Copy },
+  record {
     old_word = v;
     new_word = codes "/";
     are = (λ i. is i ∷ v ∷ is_new i ∷ codes "/" ∷ []);
     old = named;
     new = root_named;
     mode = refl;
-  })
+  },
+)
 
 begins_4 : (w v u t : Word) (dir to : Path) → w ≡ codes "-d" → NamesDirectory v dir → u ≡ codes "-D" → NamesDirectory t to → Begins (w ∷ v ∷ u ∷ t ∷ [])
-begins_4 w v u t dir to is named is_new named_new = ([], record { old = dir; new = to; mode = Copy }, record {
+begins_4 w v u t dir to is named is_new named_new = (
+  [],
+  record { old = dir; new = to; mode = Copy },
+  record {
     old_word = v;
     new_word = t;
     are = (λ i. is i ∷ v ∷ is_new i ∷ t ∷ []);
     old = named;
     new = named_new;
     mode = refl;
-  })
+  },
+)
 
 -- what an accepted line has at each position
 at_0 : (ws : List Word) (job : Job) → Accepts ws job → IsWordAt ws 0 (codes "-d")

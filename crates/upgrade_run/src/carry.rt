@@ -33,7 +33,12 @@ fn restore<F: Fs>(fs: &mut F, database: &Path, version: &Path) -> Result<(), FsE
 }
 
 /// Makes the new table's main file with the bytes of the old one's.
-fn transfer<F: Fs>(alloc: Global, fs: &mut F, old_table: &Path, new_table: &Path) -> Result<(), FsError>
+fn transfer<F: Fs>(
+    alloc: Global,
+    fs: &mut F,
+    old_table: &Path,
+    new_table: &Path,
+) -> Result<(), FsError>
     ensures told { F.told fs.new ≡ F.told fs.old }
     ensures firm { F.firm fs.new ≡ F.firm fs.old }
     ensures frame { F.told fs.old ≡ true → Since (Within (new_table.now ∷ []) (F.trail fs.old).present) (F.trail fs.old) (F.trail fs.new) }
@@ -62,7 +67,13 @@ fn in_phase(at: PhaseName, answer: Result<(), FsError>) -> Result<(), CarryFault
 }
 
 /// Carries the database, its table and the table's one file.
-pub(crate) fn carry<F: Fs>(alloc: Global, fs: &mut F, job: &Job, old: &OldPlaces, new: &NewPlaces) -> Result<(), CarryFault>
+pub(crate) fn carry<F: Fs>(
+    alloc: Global,
+    fs: &mut F,
+    job: &Job,
+    old: &OldPlaces,
+    new: &NewPlaces,
+) -> Result<(), CarryFault>
     requires old { old.now ≡ old_places_for job.now.old }
     requires new { new.now ≡ new_places_for job.now.new }
     ensures told { F.told fs.new ≡ F.told fs.old }
@@ -73,6 +84,12 @@ pub(crate) fn carry<F: Fs>(alloc: Global, fs: &mut F, job: &Job, old: &OldPlaces
     ensures phase { IfErr result (λ fault. (fault.at ≡ PhaseName.Restore) ⊎ (fault.at ≡ PhaseName.Transfer)) }
     ensures cause { HasCause (F.firm fs.old) (F.counts fs.old) (F.counts fs.new) (unless_lack (error_of (fault_of result))) }
 {
-    in_phase(PhaseName::Restore, restore(fs, &new.database, &new.database_version))?;
-    in_phase(PhaseName::Transfer, transfer(alloc, fs, &old.table, &new.table))
+    in_phase(
+        PhaseName::Restore,
+        restore(fs, &new.database, &new.database_version),
+    )?;
+    in_phase(
+        PhaseName::Transfer,
+        transfer(alloc, fs, &old.table, &new.table),
+    )
 }

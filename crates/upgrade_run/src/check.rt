@@ -6,16 +6,22 @@ ghost use Rattle.upgrade_run.specs.AllPlaces.{old_places_for, new_places_for};
 ghost use Rattle.upgrade_run.specs.Seen.{stop_of};
 ghost use Rattle.upgrade_run.specs.Conditions.{reading_in, missing_file, first_of_records, first_of_fields, first_of, root_conditions, server_conditions, control_conditions, form_conditions, cluster_conditions, content_conditions, looked_at_conditions, order};
 
+use crate::Refusal;
 use crate::conditions::{self, Reading, or_first};
 use crate::places::{NewPlaces, OldPlaces};
 use crate::seen::{Stop, two_files, two_kinds};
-use crate::Refusal;
 use control_file::{Job, Side, read_control};
 use fs_model::{Bytes, Fs, Path};
 use std::alloc::{AllocError, Global};
 
 /// The first refusal by the two data directories and their releases.
-fn first_of_roots<F: Fs>(alloc: Global, fs: &mut F, job: &Job, old: &OldPlaces, new: &NewPlaces) -> Result<Option<Refusal>, Stop>
+fn first_of_roots<F: Fs>(
+    alloc: Global,
+    fs: &mut F,
+    job: &Job,
+    old: &OldPlaces,
+    new: &NewPlaces,
+) -> Result<Option<Refusal>, Stop>
     requires old { old.now ≡ old_places_for job.now.old }
     requires new { new.now ≡ new_places_for job.now.new }
     ensures told { F.told fs.new ≡ F.told fs.old }
@@ -25,17 +31,33 @@ fn first_of_roots<F: Fs>(alloc: Global, fs: &mut F, job: &Job, old: &OldPlaces, 
     ensures cause { HasCause (F.firm fs.old) (F.counts fs.old) (F.counts fs.new) (stop_of result) }
 {
     let (old_root, new_root) = two_kinds(fs, &job.old, &job.new)?;
-    let (old_version, new_version) = two_files(alloc, fs, &old.cluster.version, &new.cluster.version)?;
+    let (old_version, new_version) = two_files(
+        alloc,
+        fs,
+        &old.cluster.version,
+        &new.cluster.version,
+    )?;
     let refusal = conditions::wrong_version(Side::New, &new_version);
     let refusal = or_first(conditions::wrong_version(Side::Old, &old_version), refusal);
-    let refusal = or_first(conditions::missing_version(Side::New, &new_version), refusal);
-    let refusal = or_first(conditions::missing_version(Side::Old, &old_version), refusal);
+    let refusal = or_first(
+        conditions::missing_version(Side::New, &new_version),
+        refusal,
+    );
+    let refusal = or_first(
+        conditions::missing_version(Side::Old, &old_version),
+        refusal,
+    );
     let refusal = or_first(conditions::missing_dir(Side::New, new_root), refusal);
     Ok(or_first(conditions::missing_dir(Side::Old, old_root), refusal))
 }
 
 /// The first refusal by a server that may be running, or by a disabled old cluster.
-fn first_of_servers<F: Fs>(fs: &mut F, job: &Job, old: &OldPlaces, new: &NewPlaces) -> Result<Option<Refusal>, Stop>
+fn first_of_servers<F: Fs>(
+    fs: &mut F,
+    job: &Job,
+    old: &OldPlaces,
+    new: &NewPlaces,
+) -> Result<Option<Refusal>, Stop>
     requires old { old.now ≡ old_places_for job.now.old }
     requires new { new.now ≡ new_places_for job.now.new }
     ensures told { F.told fs.new ≡ F.told fs.old }
@@ -89,7 +111,13 @@ fn first_of_fields(old: &Reading, new: &Reading) -> Option<Refusal>
 }
 
 /// The first refusal by the two control files.
-fn first_of_controls<F: Fs>(alloc: Global, fs: &mut F, job: &Job, old: &OldPlaces, new: &NewPlaces) -> Result<Option<Refusal>, Stop>
+fn first_of_controls<F: Fs>(
+    alloc: Global,
+    fs: &mut F,
+    job: &Job,
+    old: &OldPlaces,
+    new: &NewPlaces,
+) -> Result<Option<Refusal>, Stop>
     requires old { old.now ≡ old_places_for job.now.old }
     requires new { new.now ≡ new_places_for job.now.new }
     ensures told { F.told fs.new ≡ F.told fs.old }
@@ -116,7 +144,13 @@ fn missing_file(path: &Path, file: &Option<Bytes>) -> Result<Option<Refusal>, Al
 }
 
 /// The first refusal by what can be carried as yet, and by the files that are to be carried.
-fn first_of_forms<F: Fs>(alloc: Global, fs: &mut F, job: &Job, old: &OldPlaces, new: &NewPlaces) -> Result<Option<Refusal>, Stop>
+fn first_of_forms<F: Fs>(
+    alloc: Global,
+    fs: &mut F,
+    job: &Job,
+    old: &OldPlaces,
+    new: &NewPlaces,
+) -> Result<Option<Refusal>, Stop>
     requires old { old.now ≡ old_places_for job.now.old }
     requires new { new.now ≡ new_places_for job.now.new }
     ensures told { F.told fs.new ≡ F.told fs.old }
@@ -132,7 +166,13 @@ fn first_of_forms<F: Fs>(alloc: Global, fs: &mut F, job: &Job, old: &OldPlaces, 
 }
 
 /// The first refusal by the data directories and what runs in them.
-fn first_of_clusters<F: Fs>(alloc: Global, fs: &mut F, job: &Job, old: &OldPlaces, new: &NewPlaces) -> Result<Option<Refusal>, Stop>
+fn first_of_clusters<F: Fs>(
+    alloc: Global,
+    fs: &mut F,
+    job: &Job,
+    old: &OldPlaces,
+    new: &NewPlaces,
+) -> Result<Option<Refusal>, Stop>
     requires old { old.now ≡ old_places_for job.now.old }
     requires new { new.now ≡ new_places_for job.now.new }
     ensures told { F.told fs.new ≡ F.told fs.old }
@@ -148,7 +188,13 @@ fn first_of_clusters<F: Fs>(alloc: Global, fs: &mut F, job: &Job, old: &OldPlace
 }
 
 /// The first refusal by the control files and the files that are to be carried.
-fn first_of_contents<F: Fs>(alloc: Global, fs: &mut F, job: &Job, old: &OldPlaces, new: &NewPlaces) -> Result<Option<Refusal>, Stop>
+fn first_of_contents<F: Fs>(
+    alloc: Global,
+    fs: &mut F,
+    job: &Job,
+    old: &OldPlaces,
+    new: &NewPlaces,
+) -> Result<Option<Refusal>, Stop>
     requires old { old.now ≡ old_places_for job.now.old }
     requires new { new.now ≡ new_places_for job.now.new }
     ensures told { F.told fs.new ≡ F.told fs.old }
@@ -164,7 +210,13 @@ fn first_of_contents<F: Fs>(alloc: Global, fs: &mut F, job: &Job, old: &OldPlace
 }
 
 /// The first refusal by all that is looked at.
-fn first_of_both<F: Fs>(alloc: Global, fs: &mut F, job: &Job, old: &OldPlaces, new: &NewPlaces) -> Result<Option<Refusal>, Stop>
+fn first_of_both<F: Fs>(
+    alloc: Global,
+    fs: &mut F,
+    job: &Job,
+    old: &OldPlaces,
+    new: &NewPlaces,
+) -> Result<Option<Refusal>, Stop>
     requires old { old.now ≡ old_places_for job.now.old }
     requires new { new.now ≡ new_places_for job.now.new }
     ensures told { F.told fs.new ≡ F.told fs.old }
@@ -180,7 +232,13 @@ fn first_of_both<F: Fs>(alloc: Global, fs: &mut F, job: &Job, old: &OldPlaces, n
 }
 
 /// The first refusal of all conditions, in their order.
-pub(crate) fn first_refusal<F: Fs>(alloc: Global, fs: &mut F, job: &Job, old: &OldPlaces, new: &NewPlaces) -> Result<Option<Refusal>, Stop>
+pub(crate) fn first_refusal<F: Fs>(
+    alloc: Global,
+    fs: &mut F,
+    job: &Job,
+    old: &OldPlaces,
+    new: &NewPlaces,
+) -> Result<Option<Refusal>, Stop>
     requires old { old.now ≡ old_places_for job.now.old }
     requires new { new.now ≡ new_places_for job.now.new }
     ensures told { F.told fs.new ≡ F.told fs.old }

@@ -13,7 +13,8 @@ pub(crate) type Reading = Option<Result<Control, ControlError>>;
 
 /// The catalog text of the one form of clusters that can be carried as yet: the database `app`, and in it the table
 /// `public.t` with the column `a int4`.
-const FIRST_CATALOG: &str = "BOOTSTRAP postgres;\nSET NEXT database 16384;\nCREATE DATABASE app OWNER postgres;\nCONNECT app;\nSET NEXT type 16387;\nSET NEXT table 16385;\nSET NEXT table_file 16385;\nCREATE TABLE public.t OWNER postgres TABLESPACE pg_default (a int4);\n";
+const FIRST_CATALOG: &str =
+    "BOOTSTRAP postgres;\nSET NEXT database 16384;\nCREATE DATABASE app OWNER postgres;\nCONNECT app;\nSET NEXT type 16387;\nSET NEXT table 16385;\nSET NEXT table_file 16385;\nCREATE TABLE public.t OWNER postgres TABLESPACE pg_default (a int4);\n";
 
 /// The release that a side must have.
 pub(crate) fn release_of(side: Side) -> Release
@@ -143,7 +144,9 @@ pub(crate) fn control_version(side: Side, reading: &Reading) -> Option<Refusal>
     ensures { result ≡ control_version side reading.now }
 {
     match reading {
-        Some(Err(ControlError::ControlVersion(found))) => Some(Refusal::ControlVersion(side, *found)),
+        Some(Err(ControlError::ControlVersion(found))) => Some(Refusal::ControlVersion(
+            side, *found,
+        )),
         _ => None,
     }
 }
@@ -152,7 +155,9 @@ pub(crate) fn catalog_version(side: Side, reading: &Reading) -> Option<Refusal>
     ensures { result ≡ catalog_version side reading.now }
 {
     match reading {
-        Some(Err(ControlError::CatalogVersion(found))) => Some(Refusal::CatalogVersion(side, *found)),
+        Some(Err(ControlError::CatalogVersion(found))) => Some(Refusal::CatalogVersion(
+            side, *found,
+        )),
         _ => None,
     }
 }
@@ -200,16 +205,59 @@ fn compared(field: ControlField, in_old: u32, in_new: u32) -> Option<Refusal>
 fn fields_differ(old: &Control, new: &Control) -> Option<Refusal>
     ensures { result ≡ fields_differ old.now new.now }
 {
-    let differ = compared(ControlField::Checksums, old.checksum_version, new.checksum_version);
-    let differ = or_first(compared(ControlField::LoblkSize, old.loblksize, new.loblksize), differ);
-    let differ = or_first(compared(ControlField::ToastChunk, old.toast_chunk, new.toast_chunk), differ);
-    let differ = or_first(compared(ControlField::IndexMaxKeys, old.index_max_keys, new.index_max_keys), differ);
-    let differ = or_first(compared(ControlField::NameDataLen, old.name_data_len, new.name_data_len), differ);
-    let differ = or_first(compared(ControlField::XlogSegSize, old.xlog_seg_size, new.xlog_seg_size), differ);
-    let differ = or_first(compared(ControlField::XlogBlckSz, old.xlog_blcksz, new.xlog_blcksz), differ);
-    let differ = or_first(compared(ControlField::RelSegSize, old.relseg_size, new.relseg_size), differ);
-    let differ = or_first(compared(ControlField::BlckSz, old.blcksz, new.blcksz), differ);
-    or_first(compared(ControlField::MaxAlign, old.max_align, new.max_align), differ)
+    let differ = compared(
+        ControlField::Checksums,
+        old.checksum_version,
+        new.checksum_version,
+    );
+    let differ = or_first(
+        compared(ControlField::LoblkSize, old.loblksize, new.loblksize),
+        differ,
+    );
+    let differ = or_first(
+        compared(ControlField::ToastChunk, old.toast_chunk, new.toast_chunk),
+        differ,
+    );
+    let differ = or_first(
+        compared(
+            ControlField::IndexMaxKeys,
+            old.index_max_keys,
+            new.index_max_keys,
+        ),
+        differ,
+    );
+    let differ = or_first(
+        compared(
+            ControlField::NameDataLen,
+            old.name_data_len,
+            new.name_data_len,
+        ),
+        differ,
+    );
+    let differ = or_first(
+        compared(
+            ControlField::XlogSegSize,
+            old.xlog_seg_size,
+            new.xlog_seg_size,
+        ),
+        differ,
+    );
+    let differ = or_first(
+        compared(ControlField::XlogBlckSz, old.xlog_blcksz, new.xlog_blcksz),
+        differ,
+    );
+    let differ = or_first(
+        compared(ControlField::RelSegSize, old.relseg_size, new.relseg_size),
+        differ,
+    );
+    let differ = or_first(
+        compared(ControlField::BlckSz, old.blcksz, new.blcksz),
+        differ,
+    );
+    or_first(
+        compared(ControlField::MaxAlign, old.max_align, new.max_align),
+        differ,
+    )
 }
 
 pub(crate) fn control_differs(old: &Reading, new: &Reading) -> Option<Refusal>
@@ -230,7 +278,11 @@ fn is_first_catalog(catalog: &Option<Bytes>) -> bool
     }
 }
 
-pub(crate) fn not_yet(catalog: &Option<Bytes>, base: Option<Kind>, database: Option<Kind>) -> Option<Refusal>
+pub(crate) fn not_yet(
+    catalog: &Option<Bytes>,
+    base: Option<Kind>,
+    database: Option<Kind>,
+) -> Option<Refusal>
     ensures { result ≡ not_yet catalog.now base database }
 {
     if is_first_catalog(catalog) && is_dir(base) && database.is_none() {

@@ -2,8 +2,6 @@
 //! and the exit status. The program above calls `run` and nothing else.
 #![tactic(auto)]
 
-
-
 mod answer;
 mod carry;
 mod check;
@@ -11,8 +9,8 @@ mod conditions;
 mod lines;
 mod places;
 mod refusal;
-mod upgrade;
 mod seen;
+mod upgrade;
 mod words;
 
 pub use answer::{Answer, Change, Outcome, PhaseName, Printed, Summary};

@@ -73,7 +73,12 @@ fn put_two<K: Sink>(out: &mut K, first: &[u8], second: &[u8]) -> Result<(), Sink
     out.put(second)
 }
 
-fn put_three<K: Sink>(out: &mut K, first: &[u8], second: &[u8], third: &[u8]) -> Result<(), SinkError>
+fn put_three<K: Sink>(
+    out: &mut K,
+    first: &[u8],
+    second: &[u8],
+    third: &[u8],
+) -> Result<(), SinkError>
     ensures told { K.told out.new ≡ K.told out.old }
     ensures appended { K.told out.old ≡ true → OnOk result (K.written out.new ≡ K.written out.old ++ first.now ++ second.now ++ third.now) }
     ensures cause { SinkHasCause (K.counts out.old) (K.counts out.new) result }
@@ -83,7 +88,12 @@ fn put_three<K: Sink>(out: &mut K, first: &[u8], second: &[u8], third: &[u8]) ->
 }
 
 // A text, a number and a text.
-fn put_number<K: Sink>(out: &mut K, before: &[u8], number: u64, after: &[u8]) -> Result<(), SinkError>
+fn put_number<K: Sink>(
+    out: &mut K,
+    before: &[u8],
+    number: u64,
+    after: &[u8],
+) -> Result<(), SinkError>
     ensures told { K.told out.new ≡ K.told out.old }
     ensures appended { K.told out.old ≡ true → OnOk result (K.written out.new ≡ K.written out.old ++ before.now ++ decimal number ++ after.now) }
     ensures cause { SinkHasCause (K.counts out.old) (K.counts out.new) result }
@@ -132,7 +142,12 @@ fn put_numbered<K: Sink>(out: &mut K, side: Side, text: &[u8], number: u32) -> R
     put_number(out, text, u64::from(number), b"\n")
 }
 
-fn put_differing<K: Sink>(out: &mut K, field: ControlField, in_old: u32, in_new: u32) -> Result<(), SinkError>
+fn put_differing<K: Sink>(
+    out: &mut K,
+    field: ControlField,
+    in_old: u32,
+    in_new: u32,
+) -> Result<(), SinkError>
     ensures told { K.told out.new ≡ K.told out.old }
     ensures appended { K.told out.old ≡ true → OnOk result (K.written out.new ≡ K.written out.old ++ codes "refused: " ++ field_text field ++ codes " is " ++ decimal in_old ++ codes " in old and " ++ decimal in_new ++ codes " in new\n") }
     ensures cause { SinkHasCause (K.counts out.old) (K.counts out.new) result }
@@ -143,7 +158,12 @@ fn put_differing<K: Sink>(out: &mut K, field: ControlField, in_old: u32, in_new:
 }
 
 // A text, a path and a text.
-fn put_place<K: Sink>(out: &mut K, before: &[u8], path: &Path, after: &[u8]) -> Result<(), SinkError>
+fn put_place<K: Sink>(
+    out: &mut K,
+    before: &[u8],
+    path: &Path,
+    after: &[u8],
+) -> Result<(), SinkError>
     ensures told { K.told out.new ≡ K.told out.old }
     ensures appended { K.told out.old ≡ true → OnOk result (K.written out.new ≡ K.written out.old ++ before.now ++ text_of path.now ++ after.now) }
     ensures cause { SinkHasCause (K.counts out.old) (K.counts out.new) result }
@@ -170,17 +190,37 @@ fn put_refusal<K: Sink>(out: &mut K, refusal: &Refusal) -> Result<(), SinkError>
         Refusal::Overlap => out.put(b"refused: the two directories overlap\n"),
         Refusal::MissingDir(side) => put_sided(out, *side, b" directory is missing\n"),
         Refusal::MissingVersion(side) => put_sided(out, *side, b" PG_VERSION is missing\n"),
-        Refusal::WrongVersion(side) => put_sided(out, *side, b" PG_VERSION is of another version\n"),
+        Refusal::WrongVersion(side) => put_sided(
+            out,
+            *side,
+            b" PG_VERSION is of another version\n",
+        ),
         Refusal::Running(side) => put_sided(out, *side, b" postmaster.pid is present\n"),
         Refusal::OldDisabled => out.put(b"refused: old cluster is disabled\n"),
         Refusal::NoControl(side) => put_sided(out, *side, b" control file is missing\n"),
         Refusal::ControlShort(side) => put_sided(out, *side, b" control file is short\n"),
         Refusal::ControlCrc(side) => put_sided(out, *side, b" control file has a wrong CRC\n"),
-        Refusal::ControlVersion(side, found) => put_numbered(out, *side, b" control version is ", *found),
-        Refusal::CatalogVersion(side, found) => put_numbered(out, *side, b" catalog version is ", *found),
+        Refusal::ControlVersion(side, found) => put_numbered(
+            out,
+            *side,
+            b" control version is ",
+            *found,
+        ),
+        Refusal::CatalogVersion(side, found) => put_numbered(
+            out,
+            *side,
+            b" catalog version is ",
+            *found,
+        ),
         Refusal::NotShutDown(side, found) => put_numbered(out, *side, b" state is ", *found),
-        Refusal::BlockSize(side) => put_sided(out, *side, b" block or segment size is not supported\n"),
-        Refusal::ControlDiffers(field, in_old, in_new) => put_differing(out, *field, *in_old, *in_new),
+        Refusal::BlockSize(side) => put_sided(
+            out,
+            *side,
+            b" block or segment size is not supported\n",
+        ),
+        Refusal::ControlDiffers(field, in_old, in_new) => put_differing(
+            out, *field, *in_old, *in_new,
+        ),
         Refusal::NotYet => out.put(b"refused: form is not built yet\n"),
         Refusal::MissingFile(path) => put_missing(out, path),
     }

@@ -84,7 +84,11 @@ pub(crate) fn file_at<F: Fs>(alloc: Global, fs: &mut F, at: &Path) -> Result<Opt
 }
 
 /// The kinds of what stands at two paths.
-pub(crate) fn two_kinds<F: Fs>(fs: &mut F, one: &Path, two: &Path) -> Result<(Option<Kind>, Option<Kind>), Stop>
+pub(crate) fn two_kinds<F: Fs>(
+    fs: &mut F,
+    one: &Path,
+    two: &Path,
+) -> Result<(Option<Kind>, Option<Kind>), Stop>
     ensures told { F.told fs.new ≡ F.told fs.old }
     ensures firm { F.firm fs.new ≡ F.firm fs.old }
     ensures unchanged { F.told fs.old ≡ true → Unchanged (F.trail fs.old) (F.trail fs.new) }
@@ -98,7 +102,12 @@ pub(crate) fn two_kinds<F: Fs>(fs: &mut F, one: &Path, two: &Path) -> Result<(Op
 }
 
 /// The bytes of the files at two paths.
-pub(crate) fn two_files<F: Fs>(alloc: Global, fs: &mut F, one: &Path, two: &Path) -> Result<(Option<Bytes>, Option<Bytes>), Stop>
+pub(crate) fn two_files<F: Fs>(
+    alloc: Global,
+    fs: &mut F,
+    one: &Path,
+    two: &Path,
+) -> Result<(Option<Bytes>, Option<Bytes>), Stop>
     ensures told { F.told fs.new ≡ F.told fs.old }
     ensures firm { F.firm fs.new ≡ F.firm fs.old }
     ensures unchanged { F.told fs.old ≡ true → Unchanged (F.trail fs.old) (F.trail fs.new) }

@@ -65,9 +65,9 @@ returns-clause-carried g c told =
     subst (λ r. OnOk r (Carries s job new.present)) (sym c.in_phase-2.ensures)
     (on_ok_in_phase Transfer c.transfer.result _ (Carries s job new.present)
     (λ moves. record {
-        restored = mid.present;
-        restores = restored;
-        moves = subst (λ (places : OldPlaces). MovesFile mid.present places.table (new_table_path job.new) new.present) c.requires.old
-            (subst (λ (places : NewPlaces). MovesFile mid.present c.args.old.now.table places.table new.present) c.requires.new moves);
-      })
+      restored = mid.present;
+      restores = restored;
+      moves = subst (λ (places : OldPlaces). MovesFile mid.present places.table (new_table_path job.new) new.present) c.requires.old
+          (subst (λ (places : NewPlaces). MovesFile mid.present c.args.old.now.table places.table new.present) c.requires.new moves);
+    })
     (c.transfer.ensures.moved (c.restore.ensures.told ∙ told)))
