@@ -5,15 +5,12 @@ use Rattle.std.specs.Option.{option_map, unwrap_or}
 use Rattle.std.specs.FinMap.{get, insert}
 use Rattle.fs_model.specs.declared.node.Node.{Node}
 use Rattle.fs_model.specs.declared.node.Node.TheVariants.{Dir, File, Sym}
-use Rattle.fs_model.specs.declared.effect.Effect.TheVariants.{NewDir, NewFile}
-use Rattle.fs_model.specs.Names.{Path, parent}
+use Rattle.fs_model.specs.Names.{Path}
 use Rattle.fs_model.specs.State.{FsState, Names, Contents}
-use Rattle.fs_model.specs.Effects.{apply, set_name, bytes_of, with_bytes}
-use Rattle.fs_model.specs.Calls.{device_of}
+use Rattle.fs_model.specs.Effects.{set_name, bytes_of}
 use Rattle.fs_model.specs.Reading.{file_bytes, inode_of_node}
 use Rattle.fs_model.specs.WellFormed.{WellFormed, IsKnown}
 use Rattle.fs_model.proofs.Lookups.{set_name_here, set_name_other, insert_here, insert_other}
-use Rattle.crash_safety.specs.Frame.{IsOutside}
 use Rattle.control_file.specs.declared.job.Job.{Job}
 use Rattle.upgrade_run.specs.Places.{database_path, database_version_path, old_table_path, new_table_path}
 use Rattle.upgrade_run.specs.Carried.{Restores, MovesFile, new_version}

@@ -1,5 +1,5 @@
 -- What every crash of a run leaves of the old cluster.
-use Rattle.std.proofs.Common.{◌≡◌, List, [], ◌∷◌, sym, subst}
+use Rattle.std.proofs.Common.{List, []}
 use Rattle.fs_model.specs.Names.{Path}
 use Rattle.fs_model.specs.State.{FsState}
 use Rattle.fs_model.specs.Crash.{Image, Settled}

@@ -1,5 +1,5 @@
 -- How an upgrade's answers come about.
-use Rattle.std.proofs.Common.{◌≡◌, ◌≢◌, ◌<◌, ◌≤◌, ◌∙◌, ◌∷◌, [], ℕ, List, Option, Some, None, Result, Ok, Err, OnOk, inl, inr, refl, sym, ap, subst, arith}
+use Rattle.std.proofs.Common.{◌≡◌, ◌≤◌, ◌∙◌, ℕ, List, Some, Result, Ok, Err, OnOk, inl, sym, arith}
 use Rattle.std.specs.Prelude.{◌⊎◌}
 use Rattle.fs_model.specs.Names.{Path}
 use Rattle.fs_model.specs.State.{FsState}
@@ -10,9 +10,9 @@ use Rattle.upgrade_run.specs.declared.answer.Answer.{Answer}
 use Rattle.upgrade_run.specs.declared.answer.Answer.TheVariants.{Done, Usage, Refused, FsFault, NoMemory, Moved}
 use Rattle.upgrade_run.specs.declared.carry.CarryFault.{CarryFault}
 use Rattle.upgrade_run.specs.declared.refusal.Refusal.{Refusal}
-use Rattle.upgrade_run.specs.Words.{Word, Accepts, NamesDirectory}
+use Rattle.upgrade_run.specs.Words.{Word, Accepts}
 use Rattle.upgrade_run.specs.Conditions.{first_of, order}
-use Rattle.upgrade_run.specs.Refusals.{IsFirst, Passes}
+use Rattle.upgrade_run.specs.Refusals.{Passes}
 use Rattle.upgrade_run.specs.Carrying.{Carries}
 use Rattle.upgrade_run.specs.Meaning.{LeavesAll, IsDone, IsNoMemory, IsMoved, first_summary, Means, Completes, AnswersCarry}
 use Rattle.upgrade_run.proofs.First.{found_first, first_found}

@@ -1,11 +1,13 @@
 -- The first refusal that the tests find is the first that holds.
-use Rattle.std.proofs.Common.{◌≡◌, ◌+◌, ◌<◌, ◌∙◌, ℕ, zero, suc, Bool, true, false, List, [], ◌∷◌, ◌++◌, length, Option, Some, None, Result, Ok, Err, refl, sym, ap, subst, arith, not, get_or, if◌then◌else◌}
+use Rattle.std.proofs.Common.{◌≡◌, ◌+◌, ◌<◌, ◌∙◌, ℕ, zero, suc, Bool, true, false, List, [], ◌∷◌, Option, Some, None, Ok, Err, refl, sym, ap, subst, arith, not, if◌then◌else◌}
 use Rattle.std.specs.Prelude.{slice_get, map, is_some, bytes_eq, ◌==◌, ◌&&◌}
 use Rattle.std.proofs.lemmas.Bool.{eqb-true}
 use Rattle.fs_model.specs.State.{FsState}
 use Rattle.control_file.specs.declared.job.Job.{Job}
 use Rattle.control_file.specs.declared.modes.Side.TheVariants.{Old, New}
 use Rattle.upgrade_run.specs.declared.refusal.Refusal.{Refusal}
+use Rattle.fs_model.specs.declared.node.Kind.{Kind}
+use Rattle.fs_model.specs.declared.node.Kind.TheVariants as kind
 use Rattle.fs_model.specs.Names.{Path}
 use Rattle.fs_model.specs.Reading.{file_bytes}
 use Rattle.control_file.specs.Version.{version_text_of}
@@ -17,7 +19,7 @@ use Rattle.upgrade_run.specs.declared.refusal.ControlField.TheVariants.{MaxAlign
 use Rattle.upgrade_run.specs.declared.refusal.Refusal.TheVariants.{Overlap, MissingDir, MissingVersion, WrongVersion, Running, OldDisabled, NoControl, ControlShort, ControlCrc, ControlVersion, CatalogVersion, NotShutDown, BlockSize, ControlDiffers, NotYet, MissingFile}
 use Rattle.upgrade_run.specs.Places.{root_of, release_of, version_path, pid_path, control_path, disabled_path, catalog_path, base_path, database_path, old_table_path}
 use Rattle.upgrade_run.specs.Conditions.{Condition, Overlaps, HasDir, HasVersion, VersionIs, IsStopped, IsEnabled, HasControl, ControlIsWhole, ControlIsSound, ControlVersionIs, CatalogVersionIs, IsShutDown, BlocksFit, FieldsAgree, FormIsBuilt, HasFile, Reading, kind_at, is_dir, overlaps, missing_version, wrong_version, no_control, control_short, control_crc, control_version, catalog_version, not_shut_down, block_size, compared, fields_differ, control_differs, is_first_catalog, missing_file, reading_of, finding, place_of, order, or_first, first_of}
-use Rattle.upgrade_run.specs.Refusals.{condition_of, Holds, rank, IsFirst, Passes}
+use Rattle.upgrade_run.specs.Refusals.{condition_of, rank, IsFirst, Passes}
 
 -- each condition is at its place
 at_place : (condition : Condition) → slice_get order (place_of condition) ≡ Some condition
@@ -195,9 +197,11 @@ of_both (Some (Ok a)) None = is_of_none FieldsAgree
 of_both (Some (Err e)) b = is_of_none FieldsAgree
 of_both None b = is_of_none FieldsAgree
 
-of_file : (path : Path) (file : Option (List ℕ)) → IsOf HasFile (missing_file path file)
+of_file : (path : Path) (stands : Option Kind) → IsOf HasFile (missing_file path stands)
 of_file path None = is_of_some HasFile (MissingFile path) refl
-of_file path (Some bytes) = is_of_none HasFile
+of_file path (Some kind.Dir) = is_of_some HasFile (MissingFile path) refl
+of_file path (Some kind.File) = is_of_none HasFile
+of_file path (Some kind.Sym) = is_of_some HasFile (MissingFile path) refl
 
 own : (s : FsState) (job : Job) (condition : Condition) → IsOf condition (finding s job condition)
 own s job Overlaps = is_of_where Overlaps (overlaps job) Overlap refl
@@ -216,7 +220,7 @@ own s job (BlocksFit side) = of_blocks side (reading_of s job side)
 own s job FieldsAgree = of_both (reading_of s job Old) (reading_of s job New)
 own s job FormIsBuilt =
     is_of_unless FormIsBuilt (is_first_catalog (file_bytes s (catalog_path job.old)) && is_dir (kind_at s (base_path job.new)) && not (is_some (kind_at s (database_path job.new)))) NotYet refl
-own s job HasFile = of_file (old_table_path job.old) (file_bytes s (old_table_path job.old))
+own s job HasFile = of_file (old_table_path job.old) (kind_at s (old_table_path job.old))
 
 -- ---- the law
 

@@ -1,26 +1,23 @@
 -- What holds where the checks found nothing.
-use Rattle.std.proofs.Common.{◌≡◌, ◌≢◌, ◌∙◌, ◌++◌, ◌∷◌, [], ℕ, List, Bool, true, false, Option, Some, None, inl, inr, refl, sym, ap, subst, append_assoc}
+use Rattle.std.proofs.Common.{◌≡◌, ◌∙◌, ◌++◌, ◌∷◌, [], ℕ, List, Bool, true, false, Option, Some, None, inl, inr, refl, sym, ap, append_assoc}
 use Rattle.std.specs.Prelude.{◌&&◌, ◌||◌, ◌⊎◌, not, is_some, if◌then◌else◌, codes}
 use Rattle.std.specs.Option.{option_map}
 use Rattle.std.specs.FinMap.{get}
 use Rattle.fs_model.specs.declared.node.Node.{Node}
 use Rattle.fs_model.specs.declared.node.Node.TheVariants.{Dir, File, Sym}
-use Rattle.fs_model.specs.declared.node.Kind.{Kind}
-use Rattle.fs_model.specs.declared.node.Kind.TheVariants as kind
 use Rattle.fs_model.specs.Names.{Path, IsUnder, is_under}
-use Rattle.fs_model.specs.State.{FsState, Names, Contents}
-use Rattle.fs_model.specs.Effects.{bytes_of}
-use Rattle.fs_model.specs.Calls.{MakesDir, ReadsAt, refusal, blocked, or_else, no_dir, no_file, taken}
-use Rattle.fs_model.specs.Reading.{file_bytes, inode_of_node}
+use Rattle.fs_model.specs.State.{FsState, Names}
+use Rattle.fs_model.specs.Calls.{refusal, blocked, or_else, no_dir, no_file, taken}
+use Rattle.fs_model.specs.Reading.{file_bytes}
 use Rattle.fs_model.specs.WellFormed.{WellFormed, IsTree}
 use Rattle.fs_model.proofs.Prefixes.{is_under_made}
-use Rattle.fs_model.proofs.Ways.{free_below, blocked_push, none_first, none_second, no_dir_none}
+use Rattle.fs_model.proofs.Ways.{free_below, blocked_push, none_second, no_dir_none}
 use Rattle.crash_safety.specs.Frame.{IsInside, IsOutside}
 use Rattle.control_file.specs.declared.job.Job.{Job}
 use Rattle.upgrade_run.specs.declared.refusal.Refusal.{Refusal}
-use Rattle.upgrade_run.specs.declared.refusal.Refusal.TheVariants.{Overlap, NotYet, MissingFile}
-use Rattle.upgrade_run.specs.Places.{catalog_path, base_path, database_path, database_version_path, old_table_path, new_table_path}
-use Rattle.upgrade_run.specs.Conditions.{finding, Overlaps, FormIsBuilt, HasFile, overlaps, kind_at, kind_of_node, is_dir, is_first_catalog, missing_file}
+use Rattle.upgrade_run.specs.declared.refusal.Refusal.TheVariants.{Overlap, NotYet}
+use Rattle.upgrade_run.specs.Places.{catalog_path, base_path, database_path, old_table_path}
+use Rattle.upgrade_run.specs.Conditions.{Overlaps, FormIsBuilt, HasFile, overlaps, kind_at, kind_of_node, is_dir, is_first_catalog, missing_file}
 use Rattle.upgrade_run.specs.Refusals.{Passes}
 use Rattle.upgrade_run.specs.Carrying.{CanCarry}
 use Rattle.upgrade_run.proofs.First.{finds_nothing}
@@ -70,11 +67,11 @@ none_stands : (node : Option Node) → not (is_some (option_map kind_of_node nod
 none_stands None is = refl
 none_stands (Some node) is = absurd (cc is)
 
-file_stands : (contents : Contents) (path : Path) (node : Option Node) → missing_file path (option_map (bytes_of contents) (inode_of_node node)) ≡ None → (inode : ℕ) × (node ≡ Some (File inode))
-file_stands contents path None none = absurd (cc none)
-file_stands contents path (Some Dir) none = absurd (cc none)
-file_stands contents path (Some (File inode)) none = (inode, refl)
-file_stands contents path (Some (Sym target)) none = absurd (cc none)
+file_stands : (path : Path) (node : Option Node) → missing_file path (option_map kind_of_node node) ≡ None → (inode : ℕ) × (node ≡ Some (File inode))
+file_stands path None none = absurd (cc none)
+file_stands path (Some Dir) none = absurd (cc none)
+file_stands path (Some (File inode)) none = (inode, refl)
+file_stands path (Some (Sym target)) none = absurd (cc none)
 
 -- below what doesn't stand nothing stands
 none_below : (names : Names) → IsTree names → (dir : Path) (name : List ℕ) → get names dir ≡ None → get names (dir ++ name ∷ []) ≡ None
@@ -123,7 +120,7 @@ module _ (s : FsState) (job : Job) (passes : Passes s job) where
       none_stands (get s.names (database_path job.new)) (and_second (is_first_catalog (file_bytes s (catalog_path job.old)) && base) free form)
 
   old_table : (inode : ℕ) × (get s.names (old_table_path job.old) ≡ Some (File inode))
-  old_table = file_stands s.bytes (old_table_path job.old) (get s.names (old_table_path job.old)) (finds_nothing s job passes HasFile)
+  old_table = file_stands (old_table_path job.old) (get s.names (old_table_path job.old)) (finds_nothing s job passes HasFile)
 
   pub can_carry : WellFormed s → CanCarry s job
   can_carry well_formed = record {

@@ -1,5 +1,5 @@
 -- An answer put into its phase.
-use Rattle.std.proofs.Common.{◌≡◌, Result, Ok, Err, OnOk, refl, subst, sym}
+use Rattle.std.proofs.Common.{◌≡◌, Result, Ok, Err, OnOk, refl}
 use Rattle.fs_model.specs.declared.error.FsError.{FsError}
 use Rattle.upgrade_run.specs.declared.answer.PhaseName.{PhaseName}
 use Rattle.upgrade_run.specs.Carrying.{in_phase, fault_of}

@@ -1,5 +1,5 @@
 -- What the upgrade does to a state.
-use Rattle.std.specs.Prelude.{◌≡◌, ℕ, List, [], ◌∷◌, ◌++◌, codes, Some}
+use Rattle.std.specs.Prelude.{◌≡◌, ℕ, List, codes, Some}
 use Rattle.fs_model.specs.declared.effect.Effect.TheVariants.{NewDir}
 use Rattle.fs_model.specs.Names.{Path, parent}
 use Rattle.fs_model.specs.State.{FsState}

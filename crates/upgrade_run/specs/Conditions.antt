@@ -1,5 +1,5 @@
 -- The conditions under which an upgrade is refused: each with what its test finds, and their order.
-use Rattle.std.specs.Prelude.{◌≡◌, ◌+◌, ◌<◌, ℕ, Bool, true, false, not, ◌&&◌, ◌||◌, ◌==◌, if◌then◌else◌, List, [], ◌∷◌, ◌++◌, Option, Some, None, Result, Ok, Err, is_some, bytes_eq, codes}
+use Rattle.std.specs.Prelude.{◌+◌, ℕ, Bool, true, false, not, ◌&&◌, ◌||◌, ◌==◌, if◌then◌else◌, List, [], ◌∷◌, ◌++◌, Option, Some, None, Result, Ok, Err, is_some, bytes_eq, codes}
 use Rattle.std.specs.Option.{option_map}
 use Rattle.std.specs.FinMap.{get}
 use Rattle.fs_model.specs.declared.node.Node.{Node}
@@ -133,8 +133,10 @@ is_first_catalog None = false
 abbrev pub not_yet : Option (List ℕ) → Option Kind → Option Kind → Option Refusal
 not_yet catalog base database = if is_first_catalog catalog && is_dir base && not (is_some database) then None else Some NotYet
 
-abbrev pub missing_file : Path → Option (List ℕ) → Option Refusal
-missing_file path (Some bytes) = None
+abbrev pub missing_file : Path → Option Kind → Option Refusal
+missing_file path (Some kind.File) = None
+missing_file path (Some kind.Dir) = Some (MissingFile path)
+missing_file path (Some kind.Sym) = Some (MissingFile path)
 missing_file path None = Some (MissingFile path)
 
 -- ---- the conditions and their order
@@ -182,7 +184,7 @@ finding s job (IsShutDown side) = not_shut_down side (reading_of s job side)
 finding s job (BlocksFit side) = block_size side (reading_of s job side)
 finding s job FieldsAgree = control_differs (reading_of s job Old) (reading_of s job New)
 finding s job FormIsBuilt = not_yet (file_bytes s (catalog_path job.old)) (kind_at s (base_path job.new)) (kind_at s (database_path job.new))
-finding s job HasFile = missing_file (old_table_path job.old) (file_bytes s (old_table_path job.old))
+finding s job HasFile = missing_file (old_table_path job.old) (kind_at s (old_table_path job.old))
 
 abbrev pub root_conditions : List Condition
 root_conditions = HasDir Old ∷ HasDir New ∷ HasVersion Old ∷ HasVersion New ∷ VersionIs Old ∷ VersionIs New ∷ []

@@ -1,7 +1,5 @@
 -- What each answer of an upgrade means, and which answers there may be.
-use Rattle.std.specs.Prelude.{◌≡◌, ◌≢◌, ◌⊎◌, Bool, true, List, [], ◌∷◌, Option, Some, None, Result, Ok, Err, String}
-use Rattle.std.specs.Global.{Global}
-use Rattle.fs_model.specs.declared.error.FsError.{FsError}
+use Rattle.std.specs.Prelude.{◌≡◌, ◌≢◌, ◌⊎◌, Result, Ok, Err}
 use Rattle.fs_model.specs.declared.error.FsError.TheVariants as error
 use Rattle.fs_model.specs.Names.{Path}
 use Rattle.fs_model.specs.State.{FsState}
@@ -15,7 +13,6 @@ use Rattle.upgrade_run.specs.declared.answer.Answer.TheVariants.{Done, Usage, Re
 use Rattle.upgrade_run.specs.declared.answer.Summary.{Summary}
 use Rattle.upgrade_run.specs.declared.carry.CarryFault.{CarryFault}
 use Rattle.upgrade_run.specs.declared.refusal.Refusal.{Refusal}
-use Rattle.upgrade_run.specs.Words.{Word, Accepts}
 use Rattle.upgrade_run.specs.Refusals.{IsFirst, Passes}
 use Rattle.upgrade_run.specs.Upgraded.{Upgraded}
 

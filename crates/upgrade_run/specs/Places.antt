@@ -1,5 +1,5 @@
 -- The paths that an upgrade names, below the two data directories.
-use Rattle.std.specs.Prelude.{List, [], ◌∷◌, ◌++◌, codes}
+use Rattle.std.specs.Prelude.{[], ◌∷◌, ◌++◌, codes}
 use Rattle.fs_model.specs.Names.{Path}
 use Rattle.control_file.specs.declared.job.Job.{Job}
 use Rattle.control_file.specs.declared.modes.Side.{Side}

@@ -9,9 +9,9 @@ ghost use Rattle.upgrade_run.specs.Conditions.{reading_in, missing_file, first_o
 use crate::Refusal;
 use crate::conditions::{self, Reading, or_first};
 use crate::places::{NewPlaces, OldPlaces};
-use crate::seen::{Stop, two_files, two_kinds};
+use crate::seen::{Stop, file_and_kind, two_files, two_kinds};
 use control_file::{Job, Side, read_control};
-use fs_model::{Bytes, Fs, Path};
+use fs_model::{Bytes, Fs, Kind, Path};
 use std::alloc::{AllocError, Global};
 
 /// The first refusal by the two data directories and their releases.
@@ -134,12 +134,12 @@ fn first_of_controls<F: Fs>(
 }
 
 // The refusal by a table's main file that is missing, or no file.
-fn missing_file(path: &Path, file: &Option<Bytes>) -> Result<Option<Refusal>, AllocError>
-    ensures { IfOk result (λ found. found ≡ missing_file path.now file.now) }
+fn missing_file(path: &Path, kind: Option<Kind>) -> Result<Option<Refusal>, AllocError>
+    ensures { IfOk result (λ found. found ≡ missing_file path.now kind) }
 {
-    match file {
-        Some(_) => Ok(None),
-        None => Ok(Some(Refusal::MissingFile(path.clone()?))),
+    match kind {
+        Some(Kind::File) => Ok(None),
+        _ => Ok(Some(Refusal::MissingFile(path.clone()?))),
     }
 }
 
@@ -159,9 +159,9 @@ fn first_of_forms<F: Fs>(
     ensures first { F.told fs.old ≡ true → WellFormed (F.trail fs.old).present → IfOk result (λ found. found ≡ first_of (F.trail fs.old).present job.now form_conditions) }
     ensures cause { HasCause (F.firm fs.old) (F.counts fs.old) (F.counts fs.new) (stop_of result) }
 {
-    let (catalog, table) = two_files(alloc, fs, &old.catalog, &old.table)?;
+    let (catalog, table) = file_and_kind(alloc, fs, &old.catalog, &old.table)?;
     let (base, database) = two_kinds(fs, &new.base, &new.database)?;
-    let missing = missing_file(&old.table, &table)?;
+    let missing = missing_file(&old.table, table)?;
     Ok(or_first(conditions::not_yet(&catalog, base, database), missing))
 }
 

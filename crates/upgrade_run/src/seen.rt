@@ -119,3 +119,22 @@ pub(crate) fn two_files<F: Fs>(
     let second = file_at(alloc, fs, two)?;
     Ok((first, second))
 }
+
+/// The bytes of the file at a path, if a file stands there, and the kind of what stands at another.
+pub(crate) fn file_and_kind<F: Fs>(
+    alloc: Global,
+    fs: &mut F,
+    one: &Path,
+    two: &Path,
+) -> Result<(Option<Bytes>, Option<Kind>), Stop>
+    ensures told { F.told fs.new ≡ F.told fs.old }
+    ensures firm { F.firm fs.new ≡ F.firm fs.old }
+    ensures unchanged { F.told fs.old ≡ true → Unchanged (F.trail fs.old) (F.trail fs.new) }
+    ensures one { F.told fs.old ≡ true → WellFormed (F.trail fs.old).present → IfOk result (λ found. found.0 ≡ file_bytes (F.trail fs.old).present one.now) }
+    ensures two { F.told fs.old ≡ true → WellFormed (F.trail fs.old).present → IfOk result (λ found. found.1 ≡ kind_at (F.trail fs.old).present two.now) }
+    ensures cause { HasCause (F.firm fs.old) (F.counts fs.old) (F.counts fs.new) (stop_of result) }
+{
+    let first = file_at(alloc, fs, one)?;
+    let second = kind_at(fs, two)?;
+    Ok((first, second))
+}

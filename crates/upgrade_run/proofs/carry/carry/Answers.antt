@@ -1,8 +1,7 @@
-use Rattle.std.proofs.Common.{◌≡◌, ◌≢◌, ◌∙◌, ◌∷◌, [], ◌++◌, Ok, OnOk, None, refl, ap, sym, subst}
+use Rattle.std.proofs.Common.{◌≡◌, ◌≢◌, ◌∙◌, ◌∷◌, [], Ok, OnOk, None, refl, ap, sym, subst}
 use Rattle.std.specs.Prelude.{codes}
 use Rattle.fs_model.specs.declared.effect.Effect.TheVariants.{NewDir}
-use Rattle.fs_model.specs.Names.{Path, parent}
-use Rattle.fs_model.specs.State.{FsState}
+use Rattle.fs_model.specs.Names.{parent}
 use Rattle.fs_model.specs.Effects.{apply}
 use Rattle.fs_model.specs.Calls.{ReadsAt, Creates, refusal, device_of}
 use Rattle.fs_model.specs.Trail.{Since, DecidedBy}
@@ -14,7 +13,7 @@ use Rattle.upgrade_run.specs.declared.places.OldPlaces.{OldPlaces}
 use Rattle.upgrade_run.specs.declared.places.NewPlaces.{NewPlaces}
 use Rattle.upgrade_run.specs.Places.{database_path, database_version_path, old_table_path, new_table_path}
 use Rattle.upgrade_run.specs.Carried.{Restores, MovesFile, new_version}
-use Rattle.upgrade_run.specs.Carrying.{Carries, fault_of, in_phase}
+use Rattle.upgrade_run.specs.Carrying.{Carries, fault_of}
 use Rattle.upgrade_run.proofs.Free.{free_beside, still_readable}
 use Rattle.upgrade_run.proofs.Phases.{ok_in_phase, fault_in_phase, on_ok, on_ok_in_phase}
 use Rattle.upgrade_run.proofs.carry.carry.Goals as goal

@@ -1,9 +1,8 @@
-use Rattle.std.proofs.Common.{◌≡◌, ◌∙◌, ◌∷◌, [], ◌++◌, ap, sym, subst, None}
+use Rattle.std.proofs.Common.{◌≡◌, ◌∙◌, ◌∷◌, [], ◌++◌, ap, sym, None}
 use Rattle.std.specs.Prelude.{codes}
 use Rattle.std.specs.FinMap.{get}
 use Rattle.fs_model.specs.declared.effect.Effect.TheVariants.{NewDir}
-use Rattle.fs_model.specs.Names.{Path, parent}
-use Rattle.fs_model.specs.State.{FsState}
+use Rattle.fs_model.specs.Names.{parent}
 use Rattle.fs_model.specs.Effects.{apply}
 use Rattle.fs_model.specs.Calls.{MakesDir, Creates, refusal, device_of}
 use Rattle.fs_model.specs.Trail.{error_of}

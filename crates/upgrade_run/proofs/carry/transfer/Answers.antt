@@ -1,5 +1,4 @@
 use Rattle.std.proofs.Common.{◌≡◌, ◌∙◌, ◌∷◌, [], subst}
-use Rattle.fs_model.specs.State.{FsState}
 use Rattle.fs_model.specs.Trail.{Since}
 use Rattle.fs_model.proofs.Runs.{since_then}
 use Rattle.crash_safety.specs.Frame.{Within}

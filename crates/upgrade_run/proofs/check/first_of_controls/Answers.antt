@@ -1,10 +1,9 @@
 use Rattle.std.proofs.Common.{◌≡◌, ◌∙◌, ap}
 use Rattle.control_file.specs.declared.modes.Side.TheVariants.{Old, New}
 use Rattle.fs_model.specs.Reading.{file_bytes}
-use Rattle.upgrade_run.specs.Places.{control_path}
 use Rattle.upgrade_run.specs.declared.places.OldPlaces.{OldPlaces}
 use Rattle.upgrade_run.specs.declared.places.NewPlaces.{NewPlaces}
-use Rattle.upgrade_run.specs.Conditions.{or_first, reading_in, reading_of, first_of_records, first_of_fields, Reading}
+use Rattle.upgrade_run.specs.Conditions.{or_first, reading_in, reading_of, first_of_records, first_of_fields}
 use Rattle.upgrade_run.proofs.Joined.{controls_joined}
 use Rattle.upgrade_run.proofs.check.first_of_controls.Goals as goal
 

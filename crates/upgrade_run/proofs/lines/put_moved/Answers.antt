@@ -1,7 +1,6 @@
-use Rattle.std.proofs.Common.{◌≡◌, ◌++◌, ◌∙◌, ℕ, List, OnOk, ap, subst}
+use Rattle.std.proofs.Common.{◌≡◌, ◌++◌, ◌∙◌, OnOk, ap, subst}
 use Rattle.std.specs.Prelude.{codes}
 use Rattle.fs_model.specs.PathText.{text_of}
-use Rattle.upgrade_run.specs.Lines.{change_text}
 use Rattle.upgrade_run.proofs.Pieces.{three_behind}
 use Rattle.upgrade_run.proofs.lines.put_moved.Goals as goal
 

@@ -1,5 +1,4 @@
-use Rattle.std.proofs.Common.{◌≡◌, ◌≤◌, ◌++◌, ◌∙◌, true, Ok, arith}
-use Rattle.fs_model.specs.Output.{SinkCounts}
+use Rattle.std.proofs.Common.{◌∙◌, arith}
 use Rattle.upgrade_run.proofs.NamedNext.{named_next}
 use Rattle.upgrade_run.proofs.lines.put_path.Goals as goal
 

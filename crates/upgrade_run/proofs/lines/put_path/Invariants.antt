@@ -1,4 +1,4 @@
-use Rattle.std.proofs.Common.{◌≡◌, ◌++◌, true, ℕ, take, Ok}
+use Rattle.std.proofs.Common.{◌≡◌, ◌++◌, true, take, Ok}
 use Rattle.fs_model.specs.PathText.{joined}
 use Rattle.fs_model.specs.Output.{SinkHasCause}
 use Rattle.upgrade_run.proofs.lines.put_path.Given as goal

@@ -1,7 +1,7 @@
 use Rattle.std.proofs.Common.{◌≡◌, ◌∙◌, ◌++◌, ◌∷◌, [], ap}
 use Rattle.std.specs.Prelude.{codes}
 use Rattle.fs_model.specs.Names.{Path}
-use Rattle.upgrade_run.specs.Places.{database_path, database_version_path, new_table_path}
+use Rattle.upgrade_run.specs.Places.{database_version_path, new_table_path}
 use Rattle.upgrade_run.proofs.places.new_places.Goals as goal
 
 pub returns : goal.returns

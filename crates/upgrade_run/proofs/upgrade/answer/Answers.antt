@@ -1,5 +1,4 @@
 use Rattle.std.proofs.Common.{◌≡◌, ◌∷◌, [], refl, subst, ap, Err}
-use Rattle.fs_model.specs.Trail.{Unchanged}
 use Rattle.fs_model.proofs.Runs.{none_since}
 use Rattle.control_file.specs.declared.job.Job.{Job as AJob}
 use Rattle.upgrade_run.specs.Words.{texts}

@@ -1,14 +1,11 @@
 use Rattle.std.proofs.Common.{◌≡◌, ◌∙◌, ◌∷◌, [], refl, sym, subst}
-use Rattle.std.specs.Prelude.{Some, None}
 use Rattle.fs_model.specs.State.{FsState}
-use Rattle.fs_model.specs.Trail.{Since, Unchanged}
 use Rattle.fs_model.proofs.Runs.{none_since, since_then}
 use Rattle.crash_safety.specs.Frame.{Within}
 use Rattle.crash_safety.proofs.Runs.{since_within_then, unchanged_within}
 use Rattle.upgrade_run.specs.Places.{database_path}
-use Rattle.upgrade_run.specs.Refusals.{Passes}
 use Rattle.upgrade_run.specs.Carrying.{CanCarry, Carries}
-use Rattle.upgrade_run.specs.Meaning.{IsDone, first_summary}
+use Rattle.upgrade_run.specs.Meaning.{first_summary}
 use Rattle.upgrade_run.specs.declared.answer.Answer.TheVariants.{Done}
 use Rattle.upgrade_run.proofs.First.{none_passes, found_first}
 use Rattle.upgrade_run.proofs.Passing.{can_carry, old_apart}

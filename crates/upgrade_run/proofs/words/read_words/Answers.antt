@@ -1,9 +1,9 @@
-use Rattle.std.proofs.Common.{rules, ◌≡◌, ◌≢◌, ◌<◌, ◌≤◌, ℕ, map, length, slice_get, Some, None, Ok, Err, IfOk, OnOk, IfErr, string_bytes, refl, sym, ap, subst, arith, ◌∙◌}
+use Rattle.std.proofs.Common.{◌≡◌, ◌<◌, ◌≤◌, length, string_bytes, subst, arith}
 use Rattle.std.proofs.lemmas.List.{length-map}
 use Rattle.std.proofs.lemmas.Result.{err_from_is_err_and}
-use Rattle.upgrade_run.specs.Words.{Accepts, IsFaultAt, IsWordAt, DirectoryAt, texts}
-use Rattle.upgrade_run.specs.declared.words.WordsError.TheVariants.{Usage, OutOfMemory}
-use Rattle.upgrade_run.proofs.WordFaults.{fault_0, fault_1, fault_2, fault_3, four}
+use Rattle.upgrade_run.specs.Words.{IsFaultAt, texts}
+use Rattle.upgrade_run.specs.declared.words.WordsError.TheVariants.{Usage}
+use Rattle.upgrade_run.proofs.WordFaults.{fault_1, fault_2, fault_3, four}
 use Rattle.upgrade_run.proofs.words.read_words.Goals as goal
 
 pub returns-in_err-old-clause-usage : goal.returns-in_err-old-clause-usage
