@@ -55,9 +55,6 @@ fn below(root: &Path, names: &[&str]) -> Result<Path, FsError> {
 fn make_file<F: Fs>(fs: &mut F, root: &Path, names: &[&str], bytes: &[u8]) -> Result<(), FsError> {
     let file = below(root, names)?;
     fs.create(&file)?;
-    if bytes.len() > 8192 {
-        return Err(FsError::WrongKind);
-    }
     fs.write_at(&file, 0, bytes)?;
     fs.sync_file(&file)
 }

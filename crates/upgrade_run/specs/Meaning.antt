@@ -91,10 +91,10 @@ pub record Completes (s : FsState) (job : Job) (answer : Answer) : Type 0 where
   pub done : Passes s job → IsDone answer ⊎ IsNoMemory answer
 
 -- A fault of the file system was counted in this run, and comes in a phase that calls it. A change by somebody else
--- was a refusal, and is told of the new cluster.
+-- was a refusal, neither a fault nor want of memory, and is told of the new cluster.
 abbrev pub HasOwnCause : Path → Answer → Counts → Counts → Type 0
 HasOwnCause new (FsFault phase) before now = (phase ≢ Words) × Rose before.faults now.faults
-HasOwnCause new (Moved root change) before now = (root ≡ new) × Rose before.refusals now.refusals
+HasOwnCause new (Moved root (change.Refused found)) before now = (root ≡ new) × (found ≢ error.Failed) × (found ≢ error.OutOfMemory) × Rose before.refusals now.refusals
 HasOwnCause new (Done summary) before now = Unit {0}
 HasOwnCause new (Usage position) before now = ⊥
 HasOwnCause new (Refused refusal) before now = Unit {0}

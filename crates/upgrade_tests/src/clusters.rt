@@ -58,9 +58,7 @@ fn flip<F: Fs>(alloc: Global, fs: &mut F, path: &str, place: u64) -> Result<(), 
 fn make<F: Fs>(alloc: Global, fs: &mut F, path: &str, bytes: &[u8]) -> Result<(), Fail> {
     let file = at(alloc, path)?;
     fs.create(&file)?;
-    if bytes.len() <= 8192 {
-        fs.write_at(&file, 0, bytes)?;
-    }
+    fs.write_at(&file, 0, bytes)?;
     Ok(())
 }
 
@@ -119,6 +117,11 @@ pub(crate) fn end_of<F: Fs>(alloc: Global, fs: &mut F, words: &[&str]) -> Result
 
 /// The words of the pair.
 pub(crate) const WORDS: [&str; 4] = ["-d", "/old", "-D", "/new"];
+
+/// Whether anything stands at a path.
+pub(crate) fn stands<F: Fs>(alloc: Global, fs: &mut F, path: &str) -> Result<bool, Fail> {
+    Ok(fs.stat(&at(alloc, path)?).is_ok())
+}
 
 /// The bytes of a file of at most 8,192 bytes.
 pub(crate) fn bytes_of<F: Fs>(alloc: Global, fs: &mut F, path: &str) -> Result<Vec<u8>, Fail> {

@@ -1,6 +1,6 @@
 // A file system that fails.
-use crate::clusters::{WORDS, at, end_of, opened};
-use fs_mem::Failing;
+use crate::clusters::{WORDS, end_of, opened, stands};
+use fs_mem::{Failing, MemFs};
 use fs_model::Fs;
 use std::alloc::Global;
 use std::test::Fail;
@@ -11,6 +11,11 @@ static RESTORE: &str = "file fault in restore\n";
 
 static TRANSFER: &str = "file fault in transfer\n";
 
+const DATABASE: &str = "/new/base/16384";
+
+// The calls that make the directory, the file in it and the file's text.
+const RESTORING: u64 = 3;
+
 // The number of calls of a run that succeeds.
 fn calls(alloc: Global) -> Result<u64, Fail> {
     let mut fs = opened(alloc, &[], Vec::new(alloc))?;
@@ -18,35 +23,62 @@ fn calls(alloc: Global) -> Result<u64, Fail> {
     Ok(fs.moment())
 }
 
-fn stands<F: Fs>(alloc: Global, fs: &mut F, path: &str) -> Result<bool, Fail> {
-    Ok(fs.stat(&at(alloc, path)?).is_ok())
+// The pair, whose call of this number will fail.
+fn failing(alloc: Global, call: u64, effect: bool) -> Result<MemFs, Fail> {
+    opened(alloc, &[], vec![in alloc; Failing { call, effect }]?)
 }
 
-// Whether the run ends with a file fault in a phase that may be: where it is the checks, nothing was made.
-fn fails_well<F: Fs>(alloc: Global, fs: &mut F) -> Result<bool, Fail> {
+// Whether the run leaves the database's directory.
+fn makes<F: Fs>(alloc: Global, fs: &mut F) -> Result<bool, Fail> {
+    end_of(alloc, fs, &WORDS)?;
+    stands(alloc, fs, DATABASE)
+}
+
+// The first call that makes something, that is, the one that leaves the directory though it is said to fail.
+fn first_change(alloc: Global, count: u64) -> Result<u64, Fail> {
+    for call in 0..count {
+        let mut fs = failing(alloc, call, true)?;
+        if makes(alloc, &mut fs)? {
+            return Ok(call);
+        }
+    }
+    Ok(count)
+}
+
+// The line of a fault of this call.
+fn line_of(call: u64, first: u64) -> &'static str {
+    if call < first {
+        CHECK
+    } else if call - first < RESTORING {
+        RESTORE
+    } else {
+        TRANSFER
+    }
+}
+
+// Whether the run ends with this file fault, and in the checks has made nothing.
+fn is_fault<F: Fs>(alloc: Global, fs: &mut F, line: &str, early: bool) -> Result<bool, Fail> {
     let end = end_of(alloc, fs, &WORDS)?;
-    let made = stands(alloc, fs, "/new/base/16384")?;
-    let printed = end.printed.as_slice();
-    let in_check = printed == CHECK.as_bytes() && !made;
-    let in_restore = printed == RESTORE.as_bytes();
-    let in_transfer = printed == TRANSFER.as_bytes() && made;
-    Ok(end.code == 3 && (in_check || in_restore || in_transfer))
+    let made = stands(alloc, fs, DATABASE)?;
+    let told = end.printed.as_slice() == line.as_bytes();
+    Ok(end.code == 3 && told && !(early && made))
 }
 
-// Whether the run whose call of this number fails does so well.
-fn ends_well(alloc: Global, call: u64, effect: bool) -> Result<bool, Fail> {
-    let mut fs = opened(alloc, &[], vec![in alloc; Failing { call, effect }]?)?;
-    fails_well(alloc, &mut fs)
+// Whether a fault of this call, with its effect or without, is one of its phase.
+fn is_of_its_phase(alloc: Global, call: u64, first: u64, effect: bool) -> Result<bool, Fail> {
+    let mut fs = failing(alloc, call, effect)?;
+    is_fault(alloc, &mut fs, line_of(call, first), call < first)
 }
 
 #[test]
 fn each_call_that_fails_is_a_fault_of_its_phase(rt: HostRuntime) -> Result<(), Fail> {
     let alloc = rt.alloc();
     let count = calls(alloc)?;
-    assert!(rt; count > 20);
+    let first = first_change(alloc, count)?;
+    assert!(rt; first > 0 && first < count);
     for call in 0..count {
-        assert!(rt; ends_well(alloc, call, false)?);
-        assert!(rt; ends_well(alloc, call, true)?);
+        assert!(rt; is_of_its_phase(alloc, call, first, false)?);
+        assert!(rt; is_of_its_phase(alloc, call, first, true)?);
     }
     Ok(())
 }

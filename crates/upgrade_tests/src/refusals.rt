@@ -1,5 +1,5 @@
 // Each refusal, with its line.
-use crate::clusters::{Edit, WORDS, at, end_of, opened};
+use crate::clusters::{Edit, WORDS, end_of, opened, stands};
 use fs_model::Fs;
 use std::alloc::Global;
 use std::test::Fail;
@@ -188,10 +188,6 @@ static CASES: [Case; 38] = [
         line: "refused: form is not built yet\n",
     },
 ];
-
-fn stands<F: Fs>(alloc: Global, fs: &mut F, path: &str) -> Result<bool, Fail> {
-    Ok(fs.stat(&at(alloc, path)?).is_ok())
-}
 
 // Whether the run is refused with the line, and has made nothing.
 fn is_refused<F: Fs>(alloc: Global, fs: &mut F, line: &str) -> Result<bool, Fail> {
