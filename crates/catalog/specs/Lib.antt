@@ -2,6 +2,7 @@ pub mod Shapes
 pub mod Lists
 pub mod Cluster
 pub mod Spaces
+pub mod Lookups
 pub mod Forms
 pub mod Refusals
 pub mod Changes

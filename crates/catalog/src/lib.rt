@@ -12,6 +12,7 @@ mod enums;
 mod error;
 mod labels;
 mod lists;
+mod lookups;
 mod owners;
 mod references;
 mod refusals;

@@ -84,7 +84,7 @@ pub(crate) fn schemas_have_name(schemas: &[Schema], name: &Text) -> bool
         .any(|schema| name.bytes() == schema.name.bytes())
 }
 
-fn is_named(schema: &Text, name: &Text, other_schema: &Text, other_name: &Text) -> bool
+pub(crate) fn is_named(schema: &Text, name: &Text, other_schema: &Text, other_name: &Text) -> bool
     ensures { result ≡ same_name (record { schema = schema.now; name = name.now }) (record { schema = other_schema.now; name = other_name.now }) }
 {
     schema.bytes() == other_schema.bytes() && name.bytes() == other_name.bytes()

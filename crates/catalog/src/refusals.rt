@@ -87,16 +87,10 @@ impl Database {
         first_cause(false, too_many, oid_taken, name_taken, false)
     }
 
-    fn enum_of(&self, oid: u32) -> Option<&EnumType>
-        ensures { option_copied result ≡ find (enum_has oid) self.now.enums }
-    {
-        self.enums.iter().find(|kind| kind.oid == oid)
-    }
-
     pub(crate) fn refusal_of_label(&self, kind: u32, label: &Label) -> Option<CatalogError>
         ensures { result ≡ label_refusal self.now kind label.now }
     {
-        match self.enum_of(kind) {
+        match self.enum_type(kind) {
             None => Some(CatalogError::NoSuch),
             Some(found) => self.refusal_in_enum(found, label),
         }
