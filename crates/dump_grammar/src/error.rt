@@ -1,0 +1,57 @@
+use catalog::CatalogError;
+use dump_lex::LexKind;
+use std::alloc::{AllocError, AllocFailed};
+
+/// Why a catalog text is refused. Of one statement the causes are tested in the order of the first four.
+#[derive(Clone, Copy, Debug, PartialEq, Eq)]
+pub enum TextCause {
+    /// No token stands where one should.
+    Lex(LexKind),
+    /// The tokens are no statement.
+    UnknownStatement,
+    /// A number that the statement takes wasn't set.
+    MissingOid,
+    /// The catalog refuses what the statement makes. `OutOfMemory` never stands here.
+    Catalog(CatalogError),
+    /// There is no catalog text. Only a catalog server answers it, at line 0.
+    NoCatalog,
+    /// Memory lacked.
+    OutOfMemory,
+}
+
+/// Why a catalog text is refused, and where.
+#[derive(Clone, Copy, Debug, PartialEq, Eq)]
+pub struct TextError {
+    /// From 1: the line of the first token of the statement, or with `Lex` that of the byte at which no token begins.
+    /// 0 where the cause isn't one of the text.
+    pub line: u64,
+    pub cause: TextCause,
+}
+
+impl From<AllocError> for TextError {
+    ghost use Rattle.std.specs.Prelude.{◌≡◌};
+    ghost use Rattle.dump_grammar.specs.declared.error.TextCause.TheVariants.{OutOfMemory};
+
+    ghost from_gives = { λ _ e. e ≡ record { line = 0; cause = OutOfMemory } };
+
+    fn from(_: AllocError) -> TextError {
+        TextError {
+            line: 0,
+            cause: TextCause::OutOfMemory,
+        }
+    }
+}
+
+impl<T: Drop> From<AllocFailed<T>> for TextError {
+    ghost use Rattle.std.specs.Prelude.{◌≡◌};
+    ghost use Rattle.dump_grammar.specs.declared.error.TextCause.TheVariants.{OutOfMemory};
+
+    ghost from_gives = { λ _ e. e ≡ record { line = 0; cause = OutOfMemory } };
+
+    fn from(_: AllocFailed<T>) -> TextError {
+        TextError {
+            line: 0,
+            cause: TextCause::OutOfMemory,
+        }
+    }
+}

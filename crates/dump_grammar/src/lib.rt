@@ -1,0 +1,13 @@
+//! The statements of a catalog text, as values and as words: which words spell a statement, how its canonical line is
+//! written, and which statements a catalog has.
+//!
+//! The table of the grammar is `specs/Pieces.antt`. What reads and what writes statements is held against it.
+#![tactic(auto)]
+
+mod columns;
+mod error;
+mod statement;
+
+pub use columns::{ColumnText, ColumnTexts, NamedKind};
+pub use error::{TextCause, TextError};
+pub use statement::{NextKind, Statement};
