@@ -1,0 +1,15 @@
+pub mod Lookups
+pub mod Replaying
+pub mod Databases
+pub mod Schemas
+pub mod Enums
+pub mod Tables
+pub mod Indexes
+pub mod Sequences
+pub mod Contents
+pub mod Every
+pub mod Writable
+pub mod WritableObjects
+pub mod Roles
+pub mod NewDatabases
+pub mod Cluster

@@ -1,0 +1,4 @@
+pub mod PathTexts
+pub mod Tokens
+pub mod Statements
+pub mod Lines
