@@ -1,9 +1,9 @@
 -- Which words spell a statement, and how its canonical line is written.
-use Rattle.std.specs.Prelude.{◌≡◌, ℕ, ◌≤◌, ℤ, pos, negsuc, Bool, true, false, ◌&&◌, ◌||◌, not, nat_lt, nat_le, nat_eq, List, [], ◌∷◌, ◌++◌, length, map, Option, Some, None, is_none, if◌then◌else◌, bytes_eq}
+use Rattle.std.specs.Prelude.{◌≡◌, ℕ, ◌≤◌, Bool, true, false, ◌&&◌, ◌||◌, not, nat_lt, nat_le, nat_eq, List, [], ◌∷◌, ◌++◌, length, Option, Some, None, is_none, if◌then◌else◌, bytes_eq}
 use Rattle.std.specs.List.{list_all, flat_map}
 use Rattle.std.specs.Str.{is_utf8}
 use Rattle.std.specs.Fmt.{decimal}
-use Rattle.fs_model.specs.Names.{Path, is_name as is_file_name}
+use Rattle.fs_model.specs.Names.{is_name as is_file_name}
 use Rattle.fs_model.specs.PathText.{path_in, text_of as path_text}
 use Rattle.dump_lex.specs.declared.token.TokenKind.{TokenKind}
 use Rattle.dump_lex.specs.declared.token.TokenKind.TheVariants as tokens

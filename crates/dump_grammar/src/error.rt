@@ -1,3 +1,6 @@
+ghost use Rattle.std.specs.Prelude.{◌≡◌};
+ghost use Rattle.dump_grammar.specs.declared.error.TextCause.TheVariants.{OutOfMemory};
+
 use catalog::CatalogError;
 use dump_lex::LexKind;
 use std::alloc::{AllocError, AllocFailed};
@@ -28,13 +31,11 @@ pub struct TextError {
     pub cause: TextCause,
 }
 
-impl From<AllocError> for TextError {
-    ghost use Rattle.std.specs.Prelude.{◌≡◌};
-    ghost use Rattle.dump_grammar.specs.declared.error.TextCause.TheVariants.{OutOfMemory};
-
-    ghost from_gives = { λ _ e. e ≡ record { line = 0; cause = OutOfMemory } };
-
-    fn from(_: AllocError) -> TextError {
+impl TextError {
+    /// Memory lacked, which is of no line.
+    pub fn out_of_memory() -> TextError
+        ensures { result ≡ record { line = 0; cause = OutOfMemory } }
+    {
         TextError {
             line: 0,
             cause: TextCause::OutOfMemory,
@@ -42,16 +43,18 @@ impl From<AllocError> for TextError {
     }
 }
 
-impl<T: Drop> From<AllocFailed<T>> for TextError {
-    ghost use Rattle.std.specs.Prelude.{◌≡◌};
-    ghost use Rattle.dump_grammar.specs.declared.error.TextCause.TheVariants.{OutOfMemory};
+impl From<AllocError> for TextError {
+    ghost from_gives = { λ _ e. e ≡ record { line = 0; cause = OutOfMemory } };
 
+    fn from(_: AllocError) -> TextError {
+        TextError::out_of_memory()
+    }
+}
+
+impl<T: Drop> From<AllocFailed<T>> for TextError {
     ghost from_gives = { λ _ e. e ≡ record { line = 0; cause = OutOfMemory } };
 
     fn from(_: AllocFailed<T>) -> TextError {
-        TextError {
-            line: 0,
-            cause: TextCause::OutOfMemory,
-        }
+        TextError::out_of_memory()
     }
 }

@@ -7,7 +7,9 @@
 mod columns;
 mod error;
 mod statement;
+mod words;
 
 pub use columns::{ColumnText, ColumnTexts, NamedKind};
 pub use error::{TextCause, TextError};
 pub use statement::{NextKind, Statement};
+pub use words::{align_word, flag_word, kind_word, type_word};
