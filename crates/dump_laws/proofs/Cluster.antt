@@ -156,7 +156,7 @@ contents_from c f before (d ∷ ds) n is valid =
 
 -- ---- the whole
 
-step_bootstrap : (c : Cluster) → step (opened (started c.bootstrap)) (Bootstrap c.bootstrap) ≡ Ok (opened (started c.bootstrap))
+pub step_bootstrap : (c : Cluster) → step (opened (started c.bootstrap)) (Bootstrap c.bootstrap) ≡ Ok (opened (started c.bootstrap))
 unfolding step
 step_bootstrap c = ap (λ (b : Bool). cond b (Ok (opened (started c.bootstrap))) (Err (Catalog NoSuch))) (bytes_eq-itself c.bootstrap)
 

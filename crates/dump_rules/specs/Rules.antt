@@ -1,5 +1,5 @@
 -- What each statement makes of a catalog and a session, or why it is refused.
-use Rattle.std.specs.Prelude.{◌≡◌, ℕ, Bool, true, false, List, [], ◌∷◌, Option, Some, None, option_map, Result, Ok, Err, if◌then◌else◌, bytes_eq}
+use Rattle.std.specs.Prelude.{◌≡◌, ℕ, Bool, true, List, [], ◌∷◌, Option, Some, None, option_map, Result, Ok, Err, if◌then◌else◌, bytes_eq}
 use Rattle.std.specs.List.{find}
 use Rattle.fs_model.specs.Names.{Path}
 use Rattle.catalog.specs.declared.types.ColumnKind.{ColumnKind}
