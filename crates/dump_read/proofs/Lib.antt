@@ -1,0 +1,12 @@
+pub mod OneWord
+pub mod Found
+pub mod Steps
+pub mod Listing
+pub mod Readers
+pub mod ColumnReader
+pub mod ListReader
+pub mod StatementBack
+pub mod StatementForth
+pub mod Gather
+pub mod Said
+pub mod TextStands
