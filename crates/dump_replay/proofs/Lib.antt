@@ -1,0 +1,4 @@
+pub mod ReadingLemmas
+pub mod SequenceLemmas
+pub mod ReplayLemmas
+pub mod LoadLemmas
