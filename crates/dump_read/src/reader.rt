@@ -72,10 +72,7 @@ fn statement_in(alloc: Global, line: u64, tokens: &[Token<'_>]) -> Result<Locate
             line,
             cause: TextCause::UnknownStatement,
         }),
-        Err(Refusal::OutOfMemory) => Err(TextError {
-            line: 0,
-            cause: TextCause::OutOfMemory,
-        }),
+        Err(Refusal::OutOfMemory) => Err(TextError::out_of_memory()),
     }
 }
 
