@@ -25,6 +25,30 @@ pub(crate) fn cause_of(error: CatalogError) -> TextCause
     }
 }
 
+impl Numbers {
+    fn put(&mut self, kind: NextKind, n: Option<u32>)
+        ensures { self.new ≡ with_number kind n self.old }
+    {
+        match kind {
+            NextKind::Role => self.role = n,
+            NextKind::Tablespace => self.tablespace = n,
+            NextKind::Database => self.database = n,
+            NextKind::TypeOid => self.type_oid = n,
+            NextKind::Label => self.label = n,
+            NextKind::Table => self.table = n,
+            NextKind::TableFile => self.table_file = n,
+            NextKind::Toast => self.toast = n,
+            NextKind::ToastFile => self.toast_file = n,
+            NextKind::ToastIndex => self.toast_index = n,
+            NextKind::ToastIndexFile => self.toast_index_file = n,
+            NextKind::Index => self.index = n,
+            NextKind::IndexFile => self.index_file = n,
+            NextKind::Sequence => self.sequence = n,
+            NextKind::SequenceFile => self.sequence_file = n,
+        }
+    }
+}
+
 impl Session {
     /// The session at the start of a text: no number is set, and no database is connected.
     pub fn new() -> Session
@@ -57,77 +81,13 @@ impl Session {
     pub(crate) fn take(&mut self, kind: NextKind)
         ensures { self.new ≡ without kind self.old }
     {
-        self.numbers = with_number(kind, None, self.numbers);
+        self.numbers.put(kind, None);
     }
 
     // Sets the number of a kind.
     pub(crate) fn set(&mut self, kind: NextKind, number: u32)
         ensures { self.new ≡ with_numbers self.old (with_number kind (Some number) self.old.numbers) }
     {
-        self.numbers = with_number(kind, Some(number), self.numbers);
-    }
-}
-
-fn with_number(kind: NextKind, n: Option<u32>, numbers: Numbers) -> Numbers
-    ensures { result ≡ with_number kind n numbers }
-{
-    match kind {
-        NextKind::Role => Numbers { role: n, ..numbers },
-        NextKind::Tablespace => Numbers {
-            tablespace: n,
-            ..numbers
-        },
-        NextKind::Database => Numbers {
-            database: n,
-            ..numbers
-        },
-        NextKind::TypeOid => Numbers {
-            type_oid: n,
-            ..numbers
-        },
-        NextKind::Label => Numbers {
-            label: n,
-            ..numbers
-        },
-        NextKind::Table => Numbers {
-            table: n,
-            ..numbers
-        },
-        NextKind::TableFile => Numbers {
-            table_file: n,
-            ..numbers
-        },
-        NextKind::Toast => Numbers {
-            toast: n,
-            ..numbers
-        },
-        NextKind::ToastFile => Numbers {
-            toast_file: n,
-            ..numbers
-        },
-        NextKind::ToastIndex => Numbers {
-            toast_index: n,
-            ..numbers
-        },
-        NextKind::ToastIndexFile => Numbers {
-            toast_index_file: n,
-            ..numbers
-        },
-        NextKind::Index => Numbers {
-            index: n,
-            ..numbers
-        },
-        NextKind::IndexFile => Numbers {
-            index_file: n,
-            ..numbers
-        },
-        NextKind::Sequence => Numbers {
-            sequence: n,
-            ..numbers
-        },
-        NextKind::SequenceFile => Numbers {
-            sequence_file: n,
-            ..numbers
-        },
+        self.numbers.put(kind, Some(number));
     }
 }
