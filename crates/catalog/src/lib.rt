@@ -19,8 +19,6 @@ mod refusals;
 mod relations;
 mod same;
 mod spaces;
-#[cfg(test)]
-mod tests;
 mod types;
 
 pub use cluster::Catalog;

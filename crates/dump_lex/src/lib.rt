@@ -9,8 +9,6 @@ mod enclosed;
 mod front;
 mod laws;
 mod lexer;
-#[cfg(test)]
-mod tests;
 mod token;
 mod value;
 mod written;

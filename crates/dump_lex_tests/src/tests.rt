@@ -1,4 +1,4 @@
-use crate::{
+use dump_lex::{
     LexError, LexKind, Lexer, TokenKind, blanks_separate, bytes_of, error_holds, failing_is_told,
     found_stands, is_word, name_of, number_of, parsed_is_read, put_hex, put_name, put_string,
     reading_is_one, reading_parses, separated_is_blank, standing_is_found, string_of, text_is_read,

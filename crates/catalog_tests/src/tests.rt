@@ -2,7 +2,7 @@ ghost use Rattle.std.specs.Prelude.{◌≡◌, true, IfOk};
 ghost use Rattle.catalog.specs.Forms.{is_name, column_form};
 ghost use Rattle.std.specs.List.{list_all};
 
-use crate::{
+use catalog::{
     BaseType, Catalog, CatalogError, Column, ColumnKind, Columns, Database, EnumType, Index, Keys,
     Label, Labels, Role, Schema, Sequence, Table, Tablespace, Toast,
 };
