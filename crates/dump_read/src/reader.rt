@@ -42,6 +42,7 @@ fn lex_error(e: LexError) -> TextError
 fn gather<'a>(alloc: Global, lexer: &mut Lexer<'a>) -> Result<Vec<Token<'a>>, TextError>
     ensures read { IfOk result (λ ts. gather (suc (length (rest_of lexer.old))) lexer.old ≡ Ok (map view ts.items, lexer.new)) }
     ensures refused { IfErr result (λ e. e.cause ≢ OutOfMemory → gather (suc (length (rest_of lexer.old))) lexer.old ≡ Err e) }
+    ensures lacking { IfErr result (λ e. e.cause ≡ OutOfMemory → e.line ≡ 0) }
     ensures onward { IfOk result (λ ts. 0 < length ts.items → length (rest_of lexer.new) < length (rest_of lexer.old)) }
 {
     let mut tokens = Vec::new(alloc);
@@ -65,6 +66,7 @@ fn statement_in(alloc: Global, line: u64, tokens: &[Token<'_>]) -> Result<Locate
     ensures read { IfOk result (λ x. (p : Place) → said_as line p (form (map word_of tokens.now)) ≡ Ok (Some (said x p))) }
     ensures of_grammar { IfOk result (λ x. IsStatement x.statement) }
     ensures refused { IfErr result (λ e. e.cause ≢ OutOfMemory → (p : Place) → said_as line p (form (map word_of tokens.now)) ≡ Err e) }
+    ensures lacking { IfErr result (λ e. e.cause ≡ OutOfMemory → e.line ≡ 0) }
 {
     match form(alloc, tokens) {
         Ok(statement) => Ok(Located { line, statement }),
@@ -85,6 +87,7 @@ pub fn read_located(alloc: Global, lexer: &mut Lexer<'_>) -> Result<Option<Locat
     ensures read { IfOk result (λ o. statement_at lexer.old ≡ Ok (option_map (λ x. said x lexer.new) o)) }
     // Tokens that can't be read, or that are no statement.
     ensures refused { IfErr result (λ e. e.cause ≢ OutOfMemory → statement_at lexer.old ≡ Err e) }
+    ensures lacking { IfErr result (λ e. e.cause ≡ OutOfMemory → e.line ≡ 0) }
     ensures onward { IfOk result (λ o. IfSome o (λ _. length (rest_of lexer.new) < length (rest_of lexer.old))) }
     // Its names are names, and its numbers have their range.
     ensures of_grammar { IfOk result (λ o. IfSome o (λ x. IsStatement x.statement)) }
@@ -100,6 +103,7 @@ pub fn read_located(alloc: Global, lexer: &mut Lexer<'_>) -> Result<Option<Locat
 pub fn read_statement(alloc: Global, lexer: &mut Lexer<'_>) -> Result<Option<Statement>, TextError>
     ensures read { IfOk result (λ o. (line : ℕ) × (statement_at lexer.old ≡ Ok (option_map (λ s. record { line = line; statement = s; after = lexer.new }) o))) }
     ensures refused { IfErr result (λ e. e.cause ≢ OutOfMemory → statement_at lexer.old ≡ Err e) }
+    ensures lacking { IfErr result (λ e. e.cause ≡ OutOfMemory → e.line ≡ 0) }
     ensures onward { IfOk result (λ o. IfSome o (λ _. length (rest_of lexer.new) < length (rest_of lexer.old))) }
     ensures of_grammar { IfOk result (λ o. IfSome o IsStatement) }
 {

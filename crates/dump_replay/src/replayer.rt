@@ -20,6 +20,7 @@ use std::alloc::Global;
 fn error_at(line: u64, cause: TextCause) -> TextError
     ensures exact { result.cause ≢ causes.OutOfMemory → result ≡ record { line = line; cause = cause } }
     ensures cause { result.cause ≡ cause }
+    ensures lacking { result.cause ≡ causes.OutOfMemory → result.line ≡ 0 }
 {
     match cause {
         TextCause::OutOfMemory => TextError::out_of_memory(),
@@ -32,6 +33,7 @@ fn replay_on(alloc: Global, catalog: &mut Catalog, lexer: &mut Lexer<'_>) -> Res
     ensures exact { Ends (outcome_at (opened catalog.old) lexer.old) catalog.new result }
     ensures partly { AfterSome (opened catalog.old) lexer.old catalog.new }
     ensures memory { IfErr result (λ e. e.cause ≢ causes.Catalog CatalogError.OutOfMemory) }
+    ensures lacking { IfErr result (λ e. e.cause ≡ causes.OutOfMemory → e.line ≡ 0) }
 {
     let mut session = Session::new();
     'statements: loop {
@@ -63,6 +65,7 @@ pub fn replay(alloc: Global, catalog: &mut Catalog, text: &[u8]) -> Result<(), T
     // However it ends, some of the first statements are made, each whole.
     ensures partly { AfterSome (opened catalog.old) (start_of text.now) catalog.new }
     ensures memory { IfErr result (λ e. e.cause ≢ causes.Catalog CatalogError.OutOfMemory) }
+    ensures lacking { IfErr result (λ e. e.cause ≡ causes.OutOfMemory → e.line ≡ 0) }
 {
     let mut lexer = Lexer::over(text);
     replay_on(alloc, catalog, &mut lexer)
@@ -85,6 +88,7 @@ fn load_on(alloc: Global, name: Text, lexer: &mut Lexer<'_>) -> Result<Catalog, 
     ensures ok { IfOk result (λ c. settled_outcome (outcome_at (opened (started name)) lexer.old) ≡ Ok c) }
     ensures refused { IfErr result (λ e. e.cause ≢ causes.OutOfMemory → settled_outcome (outcome_at (opened (started name)) lexer.old) ≡ Err e) }
     ensures memory { IfErr result (λ e. e.cause ≢ causes.Catalog CatalogError.OutOfMemory) }
+    ensures lacking { IfErr result (λ e. e.cause ≡ causes.OutOfMemory → e.line ≡ 0) }
 {
     let mut catalog = started(alloc, name)?;
     replay_on(alloc, &mut catalog, lexer)?;
@@ -107,6 +111,7 @@ pub fn load(alloc: Global, text: &[u8]) -> Result<Catalog, TextError>
     ensures ok { IfOk result (λ c. load_of text.now ≡ Ok c) }
     ensures refused { IfErr result (λ e. e.cause ≢ causes.OutOfMemory → load_of text.now ≡ Err e) }
     ensures memory { IfErr result (λ e. e.cause ≢ causes.Catalog CatalogError.OutOfMemory) }
+    ensures lacking { IfErr result (λ e. e.cause ≡ causes.OutOfMemory → e.line ≡ 0) }
 {
     let mut lexer = Lexer::over(text);
     match read_located(alloc, &mut lexer) {

@@ -41,4 +41,5 @@ returns c =
       ok = tt;
       refused = λ h. load_other c.args.text.now c.over-lexer.result x c.over-lexer.ensures e c.in_default.not-Bootstrap ∙ ap (λ (y : TextError). Err y) (sym made);
       memory = λ h. cc (ap (λ (y : TextError). y.cause) made);
+      lacking = λ h. absurd (cc (ap (λ (y : TextError). y.cause) made, h));
     }
