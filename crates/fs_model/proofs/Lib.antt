@@ -5,3 +5,5 @@ pub mod Lookups
 pub mod Runs
 pub mod Ways
 pub mod Causes
+pub mod Going
+pub mod Observing

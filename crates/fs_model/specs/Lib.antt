@@ -8,5 +8,6 @@ pub mod Reading
 pub mod Crash
 pub mod WellFormed
 pub mod Trail
+pub mod Observed
 pub mod Output
 pub mod Codes

@@ -1,5 +1,5 @@
 -- How a text reads as a path, and which text a path has.
-use Rattle.std.specs.Prelude.{ℕ, not, ◌&&◌, ◌==◌, if◌then◌else◌, List, [], ◌∷◌, ◌++◌, length, Option, Some, None}
+use Rattle.std.specs.Prelude.{ℕ, Bool, false, not, ◌&&◌, ◌==◌, if◌then◌else◌, List, [], ◌∷◌, ◌++◌, length, Option, Some, None}
 use Rattle.std.specs.List.{list_all, filter, slice_split}
 use Rattle.fs_model.specs.Names.{Path, slash, is_name}
 
@@ -10,6 +10,11 @@ filled = filter (λ part. not (length part == 0))
 -- what stands between the slashes of a text
 abbrev pub parts : List ℕ → List (List ℕ)
 parts text = filled (slice_split (λ b. b == slash) text)
+
+-- whether the text begins with a slash
+abbrev pub begins_with_slash : List ℕ → Bool
+begins_with_slash [] = false
+begins_with_slash (b ∷ text) = b == slash
 
 -- A text reads as a path where it begins with `/` and each part between its slashes is a name; the path has these names.
 abbrev pub path_in : List ℕ → Option Path

@@ -1,4 +1,4 @@
--- The states that a file system was in, how a call goes on from there, and how often it answered each kind of error.
+-- The states that a file system was in, how calls go on from there, and how often it answered each kind of error.
 use Rattle.std.specs.Prelude.{◌≡◌, ◌≢◌, ◌≤◌, ◌+◌, ◌-◌, ◌^◌, ℕ, Bool, true, min, List, ◌∷◌, ◌++◌, Option, Some, None, Result, Ok, Err}
 use Rattle.std.specs.List.{AllByRecursion}
 use Rattle.fs_model.specs.declared.effect.Effect.{Effect}
@@ -39,6 +39,11 @@ abbrev pub Steps : Call → Option FsError → Trail → Trail → Type 0
 Steps call (Some OutOfMemory) old new = new ≡ old
 Steps call answer old new = (effect : Effect) × MayDo old.present call answer effect × (new ≡ grown old (apply old.present effect))
 
+-- The trail went on by calls that were allowed, each in the state in which it was made, whatever they answered.
+pub data Goes (Allowed : FsState → Call → Type 0) : Trail → Trail → Type 0 where
+  stays : {a : Trail} → Goes Allowed a a
+  on : {a b c : Trail} → Goes Allowed a b → (call : Call) (answer : Option FsError) → Allowed b.present call → Steps call answer b c → Goes Allowed a c
+
 -- Every state from the old trail's present one on has P.
 pub record Since (P : FsState → Type 0) (old new : Trail) : Type 0 where
   pub first : P old.present
@@ -73,11 +78,36 @@ RoseFor (Some Failed) before now = Rose before.faults now.faults
 RoseFor (Some OutOfMemory) before now = Rose before.lacks now.lacks
 RoseFor (Some error) before now = Rose before.refusals now.refusals
 
--- No count fell, each error has its cause, and a firm file system doesn't fail.
+-- unless the answer is a failure, none was counted
+abbrev pub FaultsStay : Option FsError → Counts → Counts → Type 0
+FaultsStay None before now = now.faults ≡ before.faults
+FaultsStay (Some Failed) before now = Unit {0}
+FaultsStay (Some error) before now = now.faults ≡ before.faults
+
+-- unless the answer is a refusal, none was counted
+abbrev pub RefusalsStay : Option FsError → Counts → Counts → Type 0
+RefusalsStay None before now = now.refusals ≡ before.refusals
+RefusalsStay (Some Failed) before now = now.refusals ≡ before.refusals
+RefusalsStay (Some OutOfMemory) before now = now.refusals ≡ before.refusals
+RefusalsStay (Some error) before now = Unit {0}
+
+-- unless the answer is want of memory, none was counted
+abbrev pub LacksStay : Option FsError → Counts → Counts → Type 0
+LacksStay None before now = now.lacks ≡ before.lacks
+LacksStay (Some OutOfMemory) before now = Unit {0}
+LacksStay (Some error) before now = now.lacks ≡ before.lacks
+
+-- Of a function that gives its calls' refusals and wants of memory on, each count but that of its answer is as before.
+pub record OthersStay (before now : Counts) (answer : Option FsError) : Type 0 where
+  pub refusals : RefusalsStay answer before now
+  pub lacks : LacksStay answer before now
+
+-- No count fell, each error has its cause, no failure was kept quiet, and a firm file system doesn't fail.
 pub record HasCause (firm : Bool) (before now : Counts) (answer : Option FsError) : Type 0 where
   pub faults : before.faults ≤ now.faults
   pub refusals : before.refusals ≤ now.refusals
   pub lacks : before.lacks ≤ now.lacks
   pub rose : RoseFor answer before now
+  pub told : FaultsStay answer before now
   pub firm_faults : firm ≡ true → now.faults ≡ before.faults
   pub firm_answer : firm ≡ true → answer ≢ Some Failed

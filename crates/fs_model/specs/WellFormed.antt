@@ -4,7 +4,7 @@ use Rattle.std.specs.List.{AllByRecursion}
 use Rattle.std.specs.FinMap as map
 use Rattle.fs_model.specs.declared.node.Node.{Node}
 use Rattle.fs_model.specs.declared.node.Node.TheVariants.{Dir, File, Sym}
-use Rattle.fs_model.specs.Names.{Path}
+use Rattle.fs_model.specs.Names.{Path, parent}
 use Rattle.fs_model.specs.State.{Names, Contents, Change, Devices, FsState}
 use Rattle.fs_model.specs.Calls.{blocked}
 
@@ -31,6 +31,10 @@ IsKnown bytes devices path (Some (Sym target)) = Unit {0}
 abbrev pub IsBelowRoot : Path → Option Node → Type 0
 IsBelowRoot path _ = path ≢ []
 
+-- all names of the change are of one directory
+abbrev pub IsOfOneDir : Change → Type 0
+IsOfOneDir change = (dir : Path) × EachPair (λ path _. parent path ≡ dir) change
+
 pub record WellFormed (s : FsState) : Type 0 where
   pub root : map.get s.names [] ≡ Some Dir
   pub root_kept : map.get s.names_kept [] ≡ Some Dir
@@ -40,6 +44,7 @@ pub record WellFormed (s : FsState) : Type 0 where
   pub names_kept : Each (IsKnown s.bytes s.devices) s.names_kept
   pub pending : AllByRecursion (EachPair (IsKnown s.bytes s.devices)) s.pending
   pub pending_below : AllByRecursion (EachPair IsBelowRoot) s.pending
+  pub together : AllByRecursion IsOfOneDir s.pending
   -- a dirty inode has bytes, and one that isn't has them on the disk too
   pub dirty : (inode : ℕ) → map.contains_key s.dirty inode ≡ true → is_some (map.get s.bytes inode) ≡ true
   pub clean : (inode : ℕ) → map.contains_key s.dirty inode ≡ false → is_some (map.get s.bytes inode) ≡ true → is_some (map.get s.bytes_kept inode) ≡ true

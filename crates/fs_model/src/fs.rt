@@ -5,7 +5,7 @@ ghost use Rattle.fs_model.specs.declared.node.Node.TheVariants.{Sym};
 ghost use Rattle.fs_model.specs.Calls.{Stats, Lists, ReadsAt, ReadsLink, Creates, WritesAt, MakesDir, MakesSymlink, Links, Renames, Unlinks, RemovesDir, SyncsFile, SyncsDir, children};
 ghost use Rattle.fs_model.specs.Reading.{stat_of, Reads};
 ghost use Rattle.fs_model.specs.WellFormed.{WellFormed};
-ghost use Rattle.fs_model.specs.Trail.{Trail, Counts, Steps, HasCause, error_of};
+ghost use Rattle.fs_model.specs.Trail.{Trail, Counts, Steps, HasCause, OthersStay, error_of};
 
 use crate::{FsError, Name, Path, Stat};
 use std::alloc::Global;
@@ -41,7 +41,8 @@ pub trait Fs {
         ensures steps { told self.old ≡ true → Steps (Stats at.now) (error_of result) (trail self.old) (trail self.new) }
         ensures gives { told self.old ≡ true → IfOk result (λ stat. stat_of (trail self.old).present at.now ≡ Some stat) }
         ensures size { IfOk result (λ stat. stat.size ≤ 2 ^ 63 - 1) }
-        ensures cause { HasCause (firm self.old) (counts self.old) (counts self.new) (error_of result) };
+        ensures cause { HasCause (firm self.old) (counts self.old) (counts self.new) (error_of result) }
+        ensures others { OthersStay (counts self.old) (counts self.new) (error_of result) };
 
     /// The names in a directory, in ascending order of their bytes.
     /// Refuses: `NotFound`, `NotDir`.
@@ -52,7 +53,8 @@ pub trait Fs {
         ensures shallow { OnOk result (length at.now < depth self.old) }
         ensures steps { told self.old ≡ true → Steps (Lists at.now) (error_of result) (trail self.old) (trail self.new) }
         ensures gives { told self.old ≡ true → IfOk result (λ names. names.items ≡ children (trail self.old).present.names at.now) }
-        ensures cause { HasCause (firm self.old) (counts self.old) (counts self.new) (error_of result) };
+        ensures cause { HasCause (firm self.old) (counts self.old) (counts self.new) (error_of result) }
+        ensures others { OthersStay (counts self.old) (counts self.new) (error_of result) };
 
     /// Reads a file's bytes from a place on into the slice, and gives how many: as many as there are and fit.
     /// Refuses: `NotFound`, `WrongKind` where it is no file.
@@ -64,7 +66,8 @@ pub trait Fs {
         ensures steps { told self.old ≡ true → Steps (ReadsAt at.now) (error_of result) (trail self.old) (trail self.new) }
         ensures gives { told self.old ≡ true → IfOk result (λ count. Reads (trail self.old).present at.now from count into.new) }
         ensures count { IfOk result (λ count. count ≤ length into.old) }
-        ensures cause { HasCause (firm self.old) (counts self.old) (counts self.new) (error_of result) };
+        ensures cause { HasCause (firm self.old) (counts self.old) (counts self.new) (error_of result) }
+        ensures others { OthersStay (counts self.old) (counts self.new) (error_of result) };
 
     /// The target of a symbolic link.
     /// Refuses: `NotFound`, `WrongKind` where it is no symbolic link.
@@ -74,7 +77,8 @@ pub trait Fs {
         ensures depth { depth self.new ≡ depth self.old }
         ensures steps { told self.old ≡ true → Steps (ReadsLink at.now) (error_of result) (trail self.old) (trail self.new) }
         ensures gives { told self.old ≡ true → IfOk result (λ target. map.get (trail self.old).present.names at.now ≡ Some (Sym target)) }
-        ensures cause { HasCause (firm self.old) (counts self.old) (counts self.new) (error_of result) };
+        ensures cause { HasCause (firm self.old) (counts self.old) (counts self.new) (error_of result) }
+        ensures others { OthersStay (counts self.old) (counts self.new) (error_of result) };
 
     /// Makes a file with no bytes, in an inode of a new number.
     /// Refuses: `Exists`.
@@ -82,7 +86,8 @@ pub trait Fs {
         ensures told { told self.new ≡ told self.old }
         ensures firm { firm self.new ≡ firm self.old }
         ensures steps { told self.old ≡ true → Steps (Creates at.now) (error_of result) (trail self.old) (trail self.new) }
-        ensures cause { HasCause (firm self.old) (counts self.old) (counts self.new) (error_of result) };
+        ensures cause { HasCause (firm self.old) (counts self.old) (counts self.new) (error_of result) }
+        ensures others { OthersStay (counts self.old) (counts self.new) (error_of result) };
 
     /// Writes the bytes into a file from a place on. A gap before them is zeros. After a failure the file has any bytes.
     /// Refuses: `NotFound`, `WrongKind` where it is no file.
@@ -91,7 +96,8 @@ pub trait Fs {
         ensures told { told self.new ≡ told self.old }
         ensures firm { firm self.new ≡ firm self.old }
         ensures steps { told self.old ≡ true → Steps (WritesAt at.now from bytes.now) (error_of result) (trail self.old) (trail self.new) }
-        ensures cause { HasCause (firm self.old) (counts self.old) (counts self.new) (error_of result) };
+        ensures cause { HasCause (firm self.old) (counts self.old) (counts self.new) (error_of result) }
+        ensures others { OthersStay (counts self.old) (counts self.new) (error_of result) };
 
     /// Makes a directory, on its parent's device.
     /// Refuses: `Exists`.
@@ -99,7 +105,8 @@ pub trait Fs {
         ensures told { told self.new ≡ told self.old }
         ensures firm { firm self.new ≡ firm self.old }
         ensures steps { told self.old ≡ true → Steps (MakesDir at.now) (error_of result) (trail self.old) (trail self.new) }
-        ensures cause { HasCause (firm self.old) (counts self.old) (counts self.new) (error_of result) };
+        ensures cause { HasCause (firm self.old) (counts self.old) (counts self.new) (error_of result) }
+        ensures others { OthersStay (counts self.old) (counts self.new) (error_of result) };
 
     /// Makes a symbolic link. The target is not tested.
     /// Refuses: `Exists`.
@@ -107,7 +114,8 @@ pub trait Fs {
         ensures told { told self.new ≡ told self.old }
         ensures firm { firm self.new ≡ firm self.old }
         ensures steps { told self.old ≡ true → Steps (MakesSymlink at.now target.now) (error_of result) (trail self.old) (trail self.new) }
-        ensures cause { HasCause (firm self.old) (counts self.old) (counts self.new) (error_of result) };
+        ensures cause { HasCause (firm self.old) (counts self.old) (counts self.new) (error_of result) }
+        ensures others { OthersStay (counts self.old) (counts self.new) (error_of result) };
 
     /// Gives a file a second name.
     /// Refuses: the ways of both paths; `NotFound`, `WrongKind` where `from` is no file; `Exists` where `to` stands;
@@ -116,7 +124,8 @@ pub trait Fs {
         ensures told { told self.new ≡ told self.old }
         ensures firm { firm self.new ≡ firm self.old }
         ensures steps { told self.old ≡ true → Steps (Links from.now to.now) (error_of result) (trail self.old) (trail self.new) }
-        ensures cause { HasCause (firm self.old) (counts self.old) (counts self.new) (error_of result) };
+        ensures cause { HasCause (firm self.old) (counts self.old) (counts self.new) (error_of result) }
+        ensures others { OthersStay (counts self.old) (counts self.new) (error_of result) };
 
     /// Gives a file another name in its directory. Nothing is replaced.
     /// Refuses: the ways of both paths; `CrossDir` where they are no names of one directory; `NotFound`, `WrongKind`
@@ -125,7 +134,8 @@ pub trait Fs {
         ensures told { told self.new ≡ told self.old }
         ensures firm { firm self.new ≡ firm self.old }
         ensures steps { told self.old ≡ true → Steps (Renames from.now to.now) (error_of result) (trail self.old) (trail self.new) }
-        ensures cause { HasCause (firm self.old) (counts self.old) (counts self.new) (error_of result) };
+        ensures cause { HasCause (firm self.old) (counts self.old) (counts self.new) (error_of result) }
+        ensures others { OthersStay (counts self.old) (counts self.new) (error_of result) };
 
     /// Removes the name of a file or a symbolic link.
     /// Refuses: `NotFound`, `WrongKind` where it is a directory.
@@ -133,7 +143,8 @@ pub trait Fs {
         ensures told { told self.new ≡ told self.old }
         ensures firm { firm self.new ≡ firm self.old }
         ensures steps { told self.old ≡ true → Steps (Unlinks at.now) (error_of result) (trail self.old) (trail self.new) }
-        ensures cause { HasCause (firm self.old) (counts self.old) (counts self.new) (error_of result) };
+        ensures cause { HasCause (firm self.old) (counts self.old) (counts self.new) (error_of result) }
+        ensures others { OthersStay (counts self.old) (counts self.new) (error_of result) };
 
     /// Removes an empty directory.
     /// Refuses: `NotFound`, `NotDir`, `NotEmpty`, which the root is always.
@@ -141,7 +152,8 @@ pub trait Fs {
         ensures told { told self.new ≡ told self.old }
         ensures firm { firm self.new ≡ firm self.old }
         ensures steps { told self.old ≡ true → Steps (RemovesDir at.now) (error_of result) (trail self.old) (trail self.new) }
-        ensures cause { HasCause (firm self.old) (counts self.old) (counts self.new) (error_of result) };
+        ensures cause { HasCause (firm self.old) (counts self.old) (counts self.new) (error_of result) }
+        ensures others { OthersStay (counts self.old) (counts self.new) (error_of result) };
 
     /// Puts a file's bytes on the disk.
     /// Refuses: `NotFound`, `WrongKind` where it is no file.
@@ -149,7 +161,8 @@ pub trait Fs {
         ensures told { told self.new ≡ told self.old }
         ensures firm { firm self.new ≡ firm self.old }
         ensures steps { told self.old ≡ true → Steps (SyncsFile at.now) (error_of result) (trail self.old) (trail self.new) }
-        ensures cause { HasCause (firm self.old) (counts self.old) (counts self.new) (error_of result) };
+        ensures cause { HasCause (firm self.old) (counts self.old) (counts self.new) (error_of result) }
+        ensures others { OthersStay (counts self.old) (counts self.new) (error_of result) };
 
     /// Puts a directory's changes of names on the disk.
     /// Refuses: `NotFound`, `NotDir`.
@@ -157,7 +170,8 @@ pub trait Fs {
         ensures told { told self.new ≡ told self.old }
         ensures firm { firm self.new ≡ firm self.old }
         ensures steps { told self.old ≡ true → Steps (SyncsDir at.now) (error_of result) (trail self.old) (trail self.new) }
-        ensures cause { HasCause (firm self.old) (counts self.old) (counts self.new) (error_of result) };
+        ensures cause { HasCause (firm self.old) (counts self.old) (counts self.new) (error_of result) }
+        ensures others { OthersStay (counts self.old) (counts self.new) (error_of result) };
 
     /// The number of calls so far, but for those that lacked memory. It stays at 2^64 - 1 once it is there.
     fn moment(&self) -> u64

@@ -61,6 +61,7 @@ impl Name {
         ensures named { IfOk result (λ name. name ≡ text.now) }
         ensures valid { IfOk result (λ name. is_name text.now ≡ true) }
         ensures bad { IsErrOf result PathError.Bad → is_name text.now ≡ false }
+        ensures memory { IsErrOf result PathError.OutOfMemory → is_name text.now ≡ true }
     {
         if !is_valid(text) {
             return Err(PathError::Bad);

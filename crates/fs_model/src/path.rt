@@ -7,7 +7,7 @@ ghost use Rattle.std.specs.Cmp.Rules.{comparing};
 ghost use Rattle.std.specs.Cmp.{partial_order_from_own_ties};
 ghost use Rattle.std.proofs.Common.{rules};
 ghost use Rattle.fs_model.specs.Names.{IsUnder, is_under, parent, same_path, is_name};
-ghost use Rattle.fs_model.specs.PathText.{path_in, parts, filled, text_of};
+ghost use Rattle.fs_model.specs.PathText.{path_in, parts, filled, text_of, begins_with_slash};
 
 use crate::{Name, PathError};
 use std::alloc::{AllocError, Global};
@@ -76,6 +76,7 @@ impl Path {
     pub fn parse(alloc: Global, text: &str) -> Result<Path, PathError>
         ensures read { IfOk result (λ path. path_in text.now ≡ Some path) }
         ensures bad { IsErrOf result PathError.Bad → path_in text.now ≡ None }
+        ensures memory { IsErrOf result PathError.OutOfMemory → begins_with_slash text.now ≡ true }
     {
         let Some(rest) = text.strip_prefix('/') else {
             return Err(PathError::Bad);

@@ -1,6 +1,6 @@
 // Where printed lines go.
 ghost use Rattle.std.specs.Prelude.{◌≡◌, ◌++◌, List, ℕ, Bool, true, OnOk};
-ghost use Rattle.fs_model.specs.Output.{SinkCounts, SinkHasCause};
+ghost use Rattle.fs_model.specs.Output.{SinkCounts, SinkHasCause, IsPartPut};
 
 use crate::SinkError;
 
@@ -15,9 +15,10 @@ pub trait Sink {
     /// How often it failed and lacked memory. Neither falls.
     ghost counts: { Self → SinkCounts };
 
-    /// Appends all of the bytes. After an error some of them may have been put.
+    /// Appends all of the bytes. After an error a first part of them may have been put.
     fn put(&mut self, bytes: &[u8]) -> Result<(), SinkError>
         ensures told { told self.new ≡ told self.old }
         ensures appended { told self.old ≡ true → OnOk result (written self.new ≡ written self.old ++ bytes.now) }
+        ensures part { told self.old ≡ true → IsPartPut (written self.old) bytes.now (written self.new) }
         ensures cause { SinkHasCause (counts self.old) (counts self.new) result };
 }
