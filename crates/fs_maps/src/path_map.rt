@@ -90,24 +90,32 @@ impl<V: Drop> PathMap<V> {
         Ok(paths)
     }
 
-    /// The last names of the paths that stand in a directory, in ascending order.
+    /// The last names of the paths that stand in a directory, in ascending order. Looks at no path that isn't under the
+    /// directory, but for one.
     pub fn children(&self, alloc: Global, dir: &Path) -> Result<Vec<Name>, AllocError>
         ensures { IfOk result (λ names. names.items ≡ filter_map (child_name dir.now) (map.keys self.now)) }
     {
         let mut names = Vec::new(alloc);
-        for path in self.entries.keys() {
+        for (path, _) in self.entries.range(dir..) {
+            if !path.is_under(dir) {
+                return Ok(names);
+            }
             add_child(&mut names, path, dir)?;
         }
         Ok(names)
     }
 
-    /// Whether a path stands in a directory.
+    /// Whether a path stands in a directory. Looks at no path that isn't under the directory, but for one, and at two paths
+    /// where each path's directory is in the map too.
     pub fn has_child(&self, dir: &Path) -> bool
         ensures { result ≡ list_any (λ path. is_some (child_name dir.now path)) (map.keys self.now) }
     {
-        for path in self.entries.keys() {
+        for (path, _) in self.entries.range(dir..) {
             if is_child(path, dir) {
                 return true;
+            }
+            if !path.is_under(dir) {
+                return false;
             }
         }
         false
