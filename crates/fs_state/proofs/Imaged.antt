@@ -33,6 +33,7 @@ settled_well_formed names contents devices sound = record {
   names_kept = sound.known;
   pending = tt;
   pending_below = tt;
+  together = tt;
   dirty = λ inode h. (let clash : false ≡ true = ap is_some (sym (map.get-empty nat_cmp inode)) ∙ h in cc);
   clean = λ inode _ h. h;
 }

@@ -12,11 +12,11 @@ use Rattle.fs_model.specs.declared.effect.Effect.TheVariants.{Nothing, KeepBytes
 use Rattle.fs_model.specs.declared.error.FsError.{FsError}
 use Rattle.fs_model.specs.declared.error.FsError.TheVariants.{Failed, NotEmpty, CrossDir}
 use Rattle.fs_model.specs.Names.{Path, same_path, parent}
-use Rattle.fs_model.specs.PathLaws.{path_total, same_path_refl}
+use Rattle.fs_model.specs.PathLaws.{path_total, same_path_refl, same_path_true}
 use Rattle.fs_model.specs.State.{Contents, Change, Devices, FsState}
 use Rattle.fs_model.specs.Effects.{apply, set_name, changed, with_change, with_bytes, is_in, bytes_of}
 use Rattle.fs_model.specs.Calls.{Call, Stats, Lists, ReadsAt, ReadsLink, Creates, WritesAt, MakesDir, MakesSymlink, Links, Renames, Unlinks, RemovesDir, SyncsFile, SyncsDir, refuse_if, no_dir, no_file, no_leaf, taken, blocked, crosses, is_root, has_child, device_of, refusal, Does, MayFail, MayDo}
-use Rattle.fs_model.specs.WellFormed.{EachPair, IsTree, IsKnown, IsBelowRoot, WellFormed}
+use Rattle.fs_model.specs.WellFormed.{EachPair, IsTree, IsKnown, IsBelowRoot, IsOfOneDir, WellFormed}
 use Rattle.fs_state.proofs.Preserved.{each_changed, each_all_changed, all_filter, all_push, all_map, root_changed, root_all_changed, more_known, get_set_other, same_cases}
 use Rattle.fs_state.proofs.Ways.{or_else_none, taken_none, tree_set, tree_without, way_stays}
 
@@ -47,8 +47,8 @@ all_known s bytes devices b d =
     (all_map (λ pair. IsKnown s.bytes s.devices pair.0 pair.1) (λ pair. IsKnown bytes devices pair.0 pair.1) (λ pair. more_known s.bytes bytes s.devices devices b d pair.0 pair.1))
     s.pending
 
-wf_change : (s : FsState) → WellFormed s → (change : Change) → IsTree (changed s.names change) → EachPair (IsKnown s.bytes s.devices) change → EachPair IsBelowRoot change → WellFormed (with_change s change)
-wf_change s w change tree known below = record {
+wf_change : (s : FsState) → WellFormed s → (change : Change) → IsTree (changed s.names change) → EachPair (IsKnown s.bytes s.devices) change → EachPair IsBelowRoot change → IsOfOneDir change → WellFormed (with_change s change)
+wf_change s w change tree known below one_dir = record {
   root = root_changed s.names change below ∙ w.root;
   root_kept = w.root_kept;
   tree = tree;
@@ -56,6 +56,7 @@ wf_change s w change tree known below = record {
   names_kept = w.names_kept;
   pending = all_push (EachPair (IsKnown s.bytes s.devices)) s.pending change w.pending known;
   pending_below = all_push (EachPair IsBelowRoot) s.pending change w.pending_below below;
+  together = all_push IsOfOneDir s.pending change w.together one_dir;
   dirty = w.dirty;
   clean = w.clean;
 }
@@ -72,6 +73,7 @@ wf_bytes s w inode bytes =
       names_kept = λ path. known path (map.get s.names_kept path) (w.names_kept path);
       pending = all_known s more s.devices (still s.bytes inode bytes) (λ dir h. h) w.pending;
       pending_below = w.pending_below;
+      together = w.together;
       dirty = λ q is_dirty. ap is_some (map.get-insert nat_cmp_total s.bytes inode bytes q)
           ∙ elim (eq_by_cmp nat_cmp q inode) as (λ b. is_some (cond b (Some tt) (map.get s.dirty q)) ≡ true → is_some (cond b (Some bytes) (map.get s.bytes q)) ≡ true) [ true ↦ λ _. refl | false ↦ w.dirty q ]
           (ap is_some (sym (map.get-insert nat_cmp_total s.dirty inode tt q)) ∙ is_dirty);
@@ -92,6 +94,7 @@ wf_device s w path device =
       names_kept = λ path. known path (map.get s.names_kept path) (w.names_kept path);
       pending = all_known s s.bytes more (λ inode h. h) (still_device s.devices path device) w.pending;
       pending_below = w.pending_below;
+      together = w.together;
       dirty = w.dirty;
       clean = w.clean;
     }
@@ -105,6 +108,7 @@ wf_keep_bytes s w inode = record {
   names_kept = w.names_kept;
   pending = w.pending;
   pending_below = w.pending_below;
+  together = w.together;
   dirty = λ q is_dirty. elim (eq_by_cmp nat_cmp q inode) as (λ b. is_some (cond b None (map.get s.dirty q)) ≡ true → is_some (map.get s.bytes q) ≡ true) [ true ↦ λ h. (let f : false ≡ true = h in cc) | false ↦ w.dirty q ]
       (ap is_some (sym (map.get-remove nat_cmp_total s.dirty inode q)) ∙ is_dirty);
   clean = λ q is_clean stands. ap is_some (map.get-insert nat_cmp_total s.bytes_kept inode (bytes_of s.bytes inode) q)
@@ -125,6 +129,7 @@ wf_keep_names s w dir =
       names_kept = each_all_changed (IsKnown s.bytes s.devices) s.names_kept here w.names_kept known;
       pending = all_filter (EachPair (IsKnown s.bytes s.devices)) (λ change. not (is_in dir change)) s.pending w.pending;
       pending_below = all_filter (EachPair IsBelowRoot) (λ change. not (is_in dir change)) s.pending w.pending_below;
+      together = all_filter IsOfOneDir (λ change. not (is_in dir change)) s.pending w.together;
       dirty = w.dirty;
       clean = w.clean;
     }
@@ -161,26 +166,40 @@ not_root : (path : Path) → is_root path ≡ false → path ≢ []
 not_root [] h e = cc
 not_root (name ∷ names) h e = cc
 
+-- one name is of one directory
+alone : (path : Path) (at : Option Node) → IsOfOneDir ((path, at) ∷ [])
+alone path at = (parent path, (refl, tt))
+
 -- a new name at a free path
 module _ (s : FsState) (w : WellFormed s) (path : Path) (node : Node) (free : map.get s.names path ≡ None) (is_open : blocked s.names path ≡ None) (known : IsKnown s.bytes s.devices path (Some node)) where
   wf_new : WellFormed (with_change s ((path, Some node) ∷ []))
   wf_new =
       let never = never_free (map.get s.names path) free in
-      wf_change s w ((path, Some node) ∷ []) (tree_set s.names w.tree path (Some node) never is_open) (known, tt) (below_root s w path never, tt)
+      wf_change s w ((path, Some node) ∷ []) (tree_set s.names w.tree path (Some node) never is_open) (known, tt) (below_root s w path never, tt) (alone path (Some node))
 
 -- a name less, of what is no directory
 wf_less : (s : FsState) → WellFormed s → (path : Path) → (no_dir (map.get s.names path) ≡ None → ⊥) → blocked s.names path ≡ None → WellFormed (with_change s ((path, None) ∷ []))
-wf_less s w path never is_open = wf_change s w ((path, None) ∷ []) (tree_set s.names w.tree path None never is_open) (tt, tt) (below_root s w path never, tt)
+wf_less s w path never is_open = wf_change s w ((path, None) ∷ []) (tree_set s.names w.tree path None never is_open) (tt, tt) (below_root s w path never, tt) (alone path None)
 
 crosses_apart : (from to : Path) → crosses from to ≡ false → (from ≢ []) × (to ≢ [])
 crosses_apart from to h =
     let first = not_true (is_root from) (is_root to || not (same_path (parent from) (parent to))) h in
     (not_root from first.0, not_root to (not_true (is_root to) (not (same_path (parent from) (parent to))) first.1).0)
 
+not_false : (b : Bool) → not b ≡ false → b ≡ true
+not_false true h = refl
+not_false false h = cc
+
+crosses_together : (from to : Path) → crosses from to ≡ false → parent from ≡ parent to
+crosses_together from to h =
+    let first = not_true (is_root from) (is_root to || not (same_path (parent from) (parent to))) h in
+    let rest = not_true (is_root to) (not (same_path (parent from) (parent to))) first.1 in
+    same_path_true (parent from) (parent to) (not_false (same_path (parent from) (parent to)) rest.1)
+
 -- a file's other name, in place of its first
 module _ (s : FsState) (w : WellFormed s) (from to : Path) (inode : ℕ) (file : map.get s.names from ≡ Some (File inode)) (free : map.get s.names to ≡ None) where
-  wf_renamed : blocked s.names from ≡ None → blocked s.names to ≡ None → from ≢ [] → to ≢ [] → WellFormed (with_change s ((from, None) ∷ (to, Some (File inode)) ∷ []))
-  wf_renamed from_open to_open from_below to_below =
+  wf_renamed : blocked s.names from ≡ None → blocked s.names to ≡ None → from ≢ [] → to ≢ [] → parent from ≡ parent to → WellFormed (with_change s ((from, None) ∷ (to, Some (File inode)) ∷ []))
+  wf_renamed from_open to_open from_below to_below one_dir =
       let left = set_name s.names from None in
       let never = never_file (map.get s.names from) inode file in
       let still_free : map.get left to ≡ None =
@@ -193,6 +212,7 @@ module _ (s : FsState) (w : WellFormed s) (from to : Path) (inode : ℕ) (file :
       (tree_set left tree to (Some (File inode)) (never_free (map.get left to) still_free) (way_stays s.names from never to to_open))
       (tt, (file_known s w from inode file, tt))
       (from_below, (to_below, tt))
+      (parent to, (one_dir, (refl, tt)))
 
 -- what a call does that is not refused keeps a state well-formed
 does_kept : (s : FsState) → WellFormed s → (call : Call) (effect : Effect) → refusal s call ≡ None → Does s call effect → WellFormed (apply s effect)
@@ -227,9 +247,10 @@ does_kept s w (Renames from to) effect free does =
     let rest = or_else_none (blocked s.names to) _ ways.1 in
     let across = or_else_none (refuse_if (crosses from to) CrossDir) _ rest.1 in
     let last = or_else_none (no_file (map.get s.names from)) (taken (map.get s.names to)) across.1 in
-    let apart = crosses_apart from to (not_refused (crosses from to) CrossDir across.0) in
+    let within = not_refused (crosses from to) CrossDir across.0 in
+    let apart = crosses_apart from to within in
     subst (λ e. WellFormed (apply s e)) (sym does.2)
-    (wf_renamed s w from to does.0 does.1 (taken_none (map.get s.names to) last.1) ways.0 rest.0 apart.0 apart.1)
+    (wf_renamed s w from to does.0 does.1 (taken_none (map.get s.names to) last.1) ways.0 rest.0 apart.0 apart.1 (crosses_together from to within))
 does_kept s w (Unlinks path) effect free does =
     let both = or_else_none (blocked s.names path) (no_leaf (map.get s.names path)) free in
     subst (λ e. WellFormed (apply s e)) (sym does) (wf_less s w path (never_leaf (map.get s.names path) both.1) both.0)
@@ -238,7 +259,7 @@ does_kept s w (RemovesDir path) effect free does =
     let rest = or_else_none (no_dir (map.get s.names path)) _ way.1 in
     let neither = not_true (is_root path) (has_child s.names path) (not_refused (is_root path || has_child s.names path) NotEmpty rest.1) in
     subst (λ e. WellFormed (apply s e)) (sym does)
-    (wf_change s w ((path, None) ∷ []) (tree_without s.names path neither.1 w.tree) (tt, tt) (not_root path neither.0, tt))
+    (wf_change s w ((path, None) ∷ []) (tree_without s.names path neither.1 w.tree) (tt, tt) (not_root path neither.0, tt) (alone path None))
 does_kept s w (SyncsFile path) effect free does = subst (λ e. WellFormed (apply s e)) (sym does.2) (wf_keep_bytes s w does.0)
 does_kept s w (SyncsDir path) effect free does = subst (λ e. WellFormed (apply s e)) (sym does) (wf_keep_names s w path)
 

@@ -8,7 +8,7 @@ use fs_model::Bytes;
 use std::alloc::{AllocError, Global};
 
 /// A copy of bytes.
-pub fn bytes_of_slice(alloc: Global, items: &[u8]) -> Result<Bytes, AllocError>
+pub(crate) fn bytes_of_slice(alloc: Global, items: &[u8]) -> Result<Bytes, AllocError>
     ensures value { IfOk result (λ bytes. bytes ≡ items.now) }
     ensures bytes { AreBytes items.now }
 {
@@ -16,7 +16,11 @@ pub fn bytes_of_slice(alloc: Global, items: &[u8]) -> Result<Bytes, AllocError>
 }
 
 /// The bytes of an inode, where it has any.
-pub fn bytes_in(alloc: Global, contents: &InodeMap<Bytes>, inode: u64) -> Result<Bytes, AllocError>
+pub(crate) fn bytes_in(
+    alloc: Global,
+    contents: &InodeMap<Bytes>,
+    inode: u64,
+) -> Result<Bytes, AllocError>
     ensures value { IfOk result (λ bytes. bytes ≡ bytes_of contents.now inode) }
     ensures bytes { IfOk result AreBytes }
 {

@@ -28,7 +28,10 @@ fn is_on_way(alloc: Global, names: &PathMap<Node>, at: &Path) -> Result<bool, Al
 }
 
 /// The names without those that are not reached.
-pub fn reached_names(alloc: Global, names: &PathMap<Node>) -> Result<PathMap<Node>, AllocError>
+pub(crate) fn reached_names(
+    alloc: Global,
+    names: &PathMap<Node>,
+) -> Result<PathMap<Node>, AllocError>
     ensures { IfOk result (λ left. left ≡ reached names.now) }
 {
     let paths = names.paths(alloc)?;
@@ -42,7 +45,7 @@ pub fn reached_names(alloc: Global, names: &PathMap<Node>) -> Result<PathMap<Nod
 }
 
 /// Puts the changes that are picked into the names.
-pub fn change_picked(
+pub(crate) fn change_picked(
     names: &mut PathMap<Node>,
     pending: &[NameChange],
     picks: &[bool],
@@ -93,7 +96,7 @@ fn bytes_left(
 }
 
 /// What is on the disk, and other bytes where they were not.
-pub fn torn_bytes(
+pub(crate) fn torn_bytes(
     alloc: Global,
     kept: &InodeMap<Bytes>,
     now: &InodeMap<Bytes>,

@@ -8,7 +8,7 @@ use fs_model::{NameChange, Node, Path};
 use std::alloc::{AllocError, Global};
 
 /// Puts one change into the names. After an error it is not said what they are.
-pub fn change_names(names: &mut PathMap<Node>, change: &NameChange) -> Result<(), AllocError>
+pub(crate) fn change_names(names: &mut PathMap<Node>, change: &NameChange) -> Result<(), AllocError>
     ensures { OnOk result (names.new ≡ changed names.old change.now) }
 {
     for (at, node) in change.items() {
@@ -21,7 +21,7 @@ pub fn change_names(names: &mut PathMap<Node>, change: &NameChange) -> Result<()
 }
 
 /// Puts the directory's changes into the names, and gives the others back.
-pub fn keep_names(
+pub(crate) fn keep_names(
     alloc: Global,
     names: &mut PathMap<Node>,
     pending: Vec<NameChange>,

@@ -1,7 +1,8 @@
 // The tests by which a call is refused.
-ghost use Rattle.std.specs.Prelude.{◌≡◌, ◌++◌, ◌∷◌, [], Some, IfOk};
+ghost use Rattle.std.specs.Prelude.{◌≡◌, ◌≢◌, ◌++◌, ◌∷◌, [], None, Some, Err, IfOk, IsErrOf};
 ghost use Rattle.std.specs.Option.{option_copied};
 ghost use Rattle.fs_model.specs.declared.node.Node.TheVariants.{File, Sym};
+ghost use Rattle.fs_model.specs.declared.error.FsError.TheVariants.{OutOfMemory};
 ghost use Rattle.fs_model.specs.Calls.{blocked, taken, no_dir, no_file, no_symlink, no_leaf};
 ghost use Rattle.fs_state.specs.Wants.{Tests};
 
@@ -10,8 +11,9 @@ use fs_model::{FsError, Name, Node, Path};
 use std::alloc::{AllocError, Global};
 
 /// Refuses what is no directory.
-pub fn test_dir(node: Option<&Node>) -> Result<(), FsError>
-    ensures { Tests (no_dir (option_copied node.entry)) result }
+pub(crate) fn test_dir(node: Option<&Node>) -> Result<(), FsError>
+    ensures refuses { Tests (no_dir (option_copied node.entry)) result }
+    ensures never_memory { result ≢ Err OutOfMemory }
 {
     match node {
         Some(Node::Dir) => Ok(()),
@@ -21,8 +23,9 @@ pub fn test_dir(node: Option<&Node>) -> Result<(), FsError>
 }
 
 /// Refuses what stands.
-pub fn test_free(node: Option<&Node>) -> Result<(), FsError>
-    ensures { Tests (taken (option_copied node.entry)) result }
+pub(crate) fn test_free(node: Option<&Node>) -> Result<(), FsError>
+    ensures refuses { Tests (taken (option_copied node.entry)) result }
+    ensures never_memory { result ≢ Err OutOfMemory }
 {
     match node {
         Some(_) => Err(FsError::Exists),
@@ -31,8 +34,9 @@ pub fn test_free(node: Option<&Node>) -> Result<(), FsError>
 }
 
 /// Refuses what is no file, and gives a file's inode.
-pub fn test_file(node: Option<&Node>) -> Result<u64, FsError>
+pub(crate) fn test_file(node: Option<&Node>) -> Result<u64, FsError>
     ensures refuses { Tests (no_file (option_copied node.entry)) result }
+    ensures never_memory { result ≢ Err OutOfMemory }
     ensures file { IfOk result (λ inode. option_copied node.entry ≡ Some (File inode)) }
 {
     match node {
@@ -43,8 +47,9 @@ pub fn test_file(node: Option<&Node>) -> Result<u64, FsError>
 }
 
 /// Refuses a directory, and what does not stand.
-pub fn test_leaf(node: Option<&Node>) -> Result<(), FsError>
-    ensures { Tests (no_leaf (option_copied node.entry)) result }
+pub(crate) fn test_leaf(node: Option<&Node>) -> Result<(), FsError>
+    ensures refuses { Tests (no_leaf (option_copied node.entry)) result }
+    ensures never_memory { result ≢ Err OutOfMemory }
 {
     match node {
         Some(Node::Dir) => Err(FsError::WrongKind),
@@ -54,8 +59,9 @@ pub fn test_leaf(node: Option<&Node>) -> Result<(), FsError>
 }
 
 /// Refuses what is no symbolic link, and gives a link's target.
-pub fn test_symlink(node: Option<&Node>) -> Result<Path, FsError>
+pub(crate) fn test_symlink(node: Option<&Node>) -> Result<Path, FsError>
     ensures refuses { Tests (no_symlink (option_copied node.entry)) result }
+    ensures memory { IsErrOf result OutOfMemory → no_symlink (option_copied node.entry) ≡ None }
     ensures target { IfOk result (λ target. option_copied node.entry ≡ Some (Sym target)) }
 {
     match node {
@@ -73,7 +79,7 @@ fn child(dir: &Path, name: &Name) -> Result<Path, AllocError>
 }
 
 /// Refuses a path with a proper prefix that is no directory; the shortest such prefix decides.
-pub fn test_way(alloc: Global, names: &PathMap<Node>, at: &Path) -> Result<(), FsError>
+pub(crate) fn test_way(alloc: Global, names: &PathMap<Node>, at: &Path) -> Result<(), FsError>
     ensures { Tests (blocked names.now at.now) result }
 {
     let mut done = Path::root(alloc);

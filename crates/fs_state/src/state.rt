@@ -1,5 +1,5 @@
 // The state as data, which an effect changes in place.
-ghost use Rattle.std.specs.Prelude.{◌≡◌, ◌≢◌, IfOk, IfErr, OnOk, None};
+ghost use Rattle.std.specs.Prelude.{◌≡◌, ◌≢◌, ◌-◌, ◌^◌, true, IfOk, IfErr, OnOk, OnErr, None};
 ghost use Rattle.std.specs.Option.{option_copied};
 ghost use Rattle.std.specs.FinMap as map;
 ghost use Rattle.fs_model.specs.declared.error.FsError.TheVariants.{OutOfMemory};
@@ -129,10 +129,12 @@ impl State {
         }
     }
 
-    /// The number that a new inode gets: one above the greatest, and 1 where there is none.
+    /// The number that a new inode gets: one above the greatest, and 1 where there is none. An error comes exactly where
+    /// the greatest number of all is in use.
     pub fn next_inode(&self) -> Result<u64, FsError>
         ensures ok { IfOk result (IsNextInode self.now.bytes) }
         ensures err { IfErr result (λ error. error ≡ OutOfMemory) }
+        ensures full { OnErr result (map.contains_key self.now.bytes (2 ^ 64 - 1) ≡ true) }
     {
         match self.bytes.last() {
             Some(last) if last == u64::MAX => Err(FsError::OutOfMemory),
