@@ -13,7 +13,7 @@ use Rattle.fs_model.specs.Names.{Path, same_path}
 use Rattle.fs_model.specs.State.{Names, FsState}
 use Rattle.fs_model.specs.Calls.{Call, Stats, Lists, ReadsAt, ReadsLink, Creates, WritesAt, MakesDir, MakesSymlink, Links, Renames, Unlinks, RemovesDir, SyncsFile, SyncsDir, or_else, refuse_if, no_dir, no_file, no_symlink, no_leaf, missing, taken, blocked, blocked_from, refusal, Does}
 use Rattle.fs_model.specs.Effects.{apply}
-use Rattle.fs_model.specs.Trail.{HasCause, error_of}
+use Rattle.fs_model.specs.Trail.{HasCause, OthersStay, error_of}
 use Rattle.std.proofs.lemmas.Grind.{common_steps}
 use Rattle.fs_state.proofs.Preserved.{same_cases}
 use Rattle.fs_state.proofs.Ways.{or_else_none}
@@ -120,18 +120,18 @@ done_cause old effect None memory firm =
     let d : Done = record { effect = effect; answer = None } in
     let f = count_push (λ d. is_fault d.answer) old.done d in
     let r = count_push (λ d. is_refusal d.answer) old.done d in
-    record { faults = omega (arith, f); refusals = omega (arith, r); lacks = omega arith; rose = tt; firm_faults = λ _. omega (arith, f); firm_answer = λ _ e. cc }
+    record { faults = omega (arith, f); refusals = omega (arith, r); lacks = omega arith; rose = tt; told = omega (arith, f); firm_faults = λ _. omega (arith, f); firm_answer = λ _ e. cc }
 done_cause old effect (Some Failed) memory firm =
     let d : Done = record { effect = effect; answer = Some Failed } in
     let f = count_push (λ d. is_fault d.answer) old.done d in
     let r = count_push (λ d. is_refusal d.answer) old.done d in
-    record { faults = omega (arith, f); refusals = omega (arith, r); lacks = omega arith; rose = omega (arith, f); firm_faults = λ h. absurd (firm h refl); firm_answer = firm }
+    record { faults = omega (arith, f); refusals = omega (arith, r); lacks = omega arith; rose = omega (arith, f); told = tt; firm_faults = λ h. absurd (firm h refl); firm_answer = firm }
 done_cause old effect (Some OutOfMemory) memory firm = absurd (memory refl)
 done_cause old effect (Some error) memory firm =
     let d : Done = record { effect = effect; answer = Some error } in
     let f = count_push (λ d. is_fault d.answer) old.done d in
     let r = count_push (λ d. is_refusal d.answer) old.done d in
-    record { faults = omega (arith, f); refusals = omega (arith, r); lacks = omega arith; rose = omega (arith, r); firm_faults = λ _. omega (arith, f); firm_answer = firm }
+    record { faults = omega (arith, f); refusals = omega (arith, r); lacks = omega arith; rose = omega (arith, r); told = omega (arith, f); firm_faults = λ _. omega (arith, f); firm_answer = firm }
 
 one_more : (lacks : ℕ) → (lacks ≤ lacks + (if lacks == 2 ^ 64 - 1 then 0 else 1)) × (min (lacks + 1) (2 ^ 64 - 1) ≤ lacks + (if lacks == 2 ^ 64 - 1 then 0 else 1))
 one_more lacks = (grind (arith, common_steps), grind (arith, common_steps))
@@ -142,6 +142,7 @@ lack_cause old = record {
   refusals = omega arith;
   lacks = (one_more old.lacks).0;
   rose = (one_more old.lacks).1;
+  told = refl;
   firm_faults = λ _. refl;
   firm_answer = λ _ e. cc;
 }
@@ -152,6 +153,22 @@ cause old new call None ends =
 cause old new call (Some OutOfMemory) ends = subst (λ h. HasCause (is_firm old) (counts_of old) (counts_of h) (Some OutOfMemory)) (sym ends) (lack_cause old)
 cause old new call (Some error) ends =
     subst (λ h. HasCause (is_firm old) (counts_of old) (counts_of h) (Some error)) (sym ends.2) (done_cause old ends.0 (Some error) (λ e. cc) (firm_answers old call (Some error) ends.0 ends.1))
+
+-- a call more counts its own answer alone
+done_others : (old : History) (effect : Effect) (answer : Option FsError) → answer ≢ Some OutOfMemory → OthersStay (counts_of old) (counts_of (one_done old effect answer)) answer
+done_others old effect None memory =
+    let r = count_push (λ d. is_refusal d.answer) old.done (record { effect = effect; answer = None }) in
+    record { refusals = omega (arith, r); lacks = refl }
+done_others old effect (Some Failed) memory =
+    let r = count_push (λ d. is_refusal d.answer) old.done (record { effect = effect; answer = Some Failed }) in
+    record { refusals = omega (arith, r); lacks = refl }
+done_others old effect (Some OutOfMemory) memory = absurd (memory refl)
+done_others old effect (Some error) memory = record { refusals = tt; lacks = refl }
+
+pub others : (old new : History) (call : Call) (answer : Option FsError) → Ends old call answer new → OthersStay (counts_of old) (counts_of new) answer
+others old new call None ends = subst (λ h. OthersStay (counts_of old) (counts_of h) None) (sym ends.2) (done_others old ends.0 None (λ e. cc))
+others old new call (Some OutOfMemory) ends = subst (λ h. OthersStay (counts_of old) (counts_of h) (Some OutOfMemory)) (sym ends) (record { refusals = refl; lacks = tt })
+others old new call (Some error) ends = subst (λ h. OthersStay (counts_of old) (counts_of h) (Some error)) (sym ends.2) (done_others old ends.0 (Some error) (λ e. cc))
 
 pub firm_kept : (old new : History) (call : Call) (answer : Option FsError) → Ends old call answer new → is_firm new ≡ is_firm old
 firm_kept old new call None ends = ap is_firm ends.2

@@ -1,6 +1,7 @@
 -- Faults come in the order of the entries, and what was put in stands.
 use Rattle.std.proofs.Common.{◌≡◌, ℕ, ◌+◌, Bool, true, false, cond, List, [], ◌∷◌, ◌++◌, length, Option, Some, None, refl, ◌∙◌, ap, arith}
 use Rattle.std.specs.Prelude.{is_some, ◌||◌}
+use Rattle.std.specs.Option.{option_or}
 use Rattle.std.specs.List.{list_any}
 use Rattle.std.specs.FinMap as map
 use Rattle.fs_model.specs.declared.node.Node.{Node}
@@ -12,32 +13,32 @@ use Rattle.fs_model.specs.Calls.{is_root}
 use Rattle.fs_mem.specs.declared.tree.Entry.{Entry}
 use Rattle.fs_mem.specs.declared.error.TreeError.{TreeError}
 use Rattle.fs_mem.specs.Laws.{FaultsComeInOrder, EntriesStand}
-use Rattle.fs_mem.specs.Tree.{node_of, with_name, with_contents, fault_of, first_of, fault_from, names_from, contents_from, root_names, no_contents}
+use Rattle.fs_mem.specs.Tree.{node_of, with_name, with_contents, fault_of, fault_from, names_from, contents_from, root_names, no_contents}
 
-first_of_none : (fault : Option TreeError) → first_of fault None ≡ fault
+first_of_none : (fault : Option TreeError) → option_or fault None ≡ fault
 first_of_none None = refl
 first_of_none (Some fault) = refl
 
-first_of_assoc : (a b d : Option TreeError) → first_of a (first_of b d) ≡ first_of (first_of a b) d
+first_of_assoc : (a b d : Option TreeError) → option_or a (option_or b d) ≡ option_or (option_or a b) d
 first_of_assoc None b d = refl
 first_of_assoc (Some fault) b d = refl
 
 fault_push : (names : Names) (contents : Contents) (index : ℕ) (items : List (Path × Entry)) (item : Path × Entry)
-    → fault_from names contents index (items ++ item ∷ []) ≡ first_of (fault_from names contents index items) (fault_of (names_from names items) (contents_from contents items) (index + length items) item)
+    → fault_from names contents index (items ++ item ∷ []) ≡ option_or (fault_from names contents index items) (fault_of (names_from names items) (contents_from contents items) (index + length items) item)
 fault_push names contents index [] item =
     let same : index ≡ index + length {A = Path × Entry} [] = omega arith in
     first_of_none (fault_of names contents index item) ∙ ap (λ i. fault_of names contents i item) same
 fault_push names contents index (first ∷ items) item =
     let last : ℕ → Option TreeError = λ i. fault_of (names_from (with_name names first) items) (contents_from (with_contents contents first) items) i item in
     let same : index + 1 + length items ≡ index + length (first ∷ items) = omega arith in
-    ap (first_of (fault_of names contents index first)) (fault_push (with_name names first) (with_contents contents first) (index + 1) items item)
+    ap (option_or (fault_of names contents index first)) (fault_push (with_name names first) (with_contents contents first) (index + 1) items item)
     ∙ first_of_assoc (fault_of names contents index first) (fault_from (with_name names first) (with_contents contents first) (index + 1) items) (last (index + 1 + length items))
-    ∙ ap (λ i. first_of (fault_from names contents index (first ∷ items)) (last i)) same
+    ∙ ap (λ i. option_or (fault_from names contents index (first ∷ items)) (last i)) same
 
 pub in_order : FaultsComeInOrder
 in_order items item =
     let same : 0 + length items ≡ length items = omega arith in
-    fault_push root_names no_contents 0 items item ∙ ap (λ i. first_of (fault_from root_names no_contents 0 items) (fault_of (names_from root_names items) (contents_from no_contents items) i item)) same
+    fault_push root_names no_contents 0 items item ∙ ap (λ i. option_or (fault_from root_names no_contents 0 items) (fault_of (names_from root_names items) (contents_from no_contents items) i item)) same
 
 or_some : (same more : Bool) (at : Option Node) (node : Node) → (is_some (cond same (Some node) at) || more) ≡ (is_some at || (same || more))
 or_some true true None node = refl

@@ -2,3 +2,4 @@ pub mod Replay
 pub mod Causes
 pub mod Opens
 pub mod Faults
+pub mod Putting

@@ -1,6 +1,7 @@
 -- The state that a tree opens with is on the disk and well-formed.
 use Rattle.std.proofs.Common.{◌≡◌, ℕ, ◌+◌, ◌-◌, ◌<◌, Bool, true, false, cond, not, List, [], ◌∷◌, ◌++◌, length, take, get_or, Option, Some, None, refl, sym, ◌∙◌, ap, subst, arith, take_all}
 use Rattle.std.specs.Prelude.{is_some, if◌then◌else◌}
+use Rattle.std.specs.Option.{option_or}
 use Rattle.std.specs.Ordering.{nat_cmp}
 use Rattle.std.specs.FinMap as map
 use Rattle.std.proofs.lemmas.List.{take_more}
@@ -20,9 +21,9 @@ use Rattle.fs_mem.specs.declared.tree.Entry.{Entry}
 use Rattle.fs_mem.specs.declared.tree.Entry.TheVariants.{Dir, File, Sym}
 use Rattle.fs_mem.specs.declared.error.TreeError.{TreeError}
 use Rattle.fs_mem.specs.declared.error.TreeError.TheVariants.{NoParent, Twice, InodeDiffers}
-use Rattle.fs_mem.specs.Tree.{node_of, with_name, with_contents, with_device, with_file, with_dir, is_dir, differs, fault_of, first_of, fault_from, tree_fault, names_from, contents_from, devices_from, root_names, root_devices, no_contents, opening_of}
+use Rattle.fs_mem.specs.Tree.{node_of, with_name, with_contents, with_device, with_file, with_dir, is_dir, differs, fault_of, fault_from, tree_fault, names_from, contents_from, devices_from, root_names, root_devices, no_contents, opening_of}
 
-first_none : (first later : Option TreeError) → first_of first later ≡ None → (first ≡ None) × (later ≡ None)
+first_none : (first later : Option TreeError) → option_or first later ≡ None → (first ≡ None) × (later ≡ None)
 first_none None later none = (refl, none)
 first_none (Some fault) later none = cc
 

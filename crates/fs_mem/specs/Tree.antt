@@ -1,6 +1,6 @@
 -- Trees: when a list of entries is one, the state that holds it, and what stands in a state.
 use Rattle.std.specs.Prelude.{ℕ, ◌+◌, Bool, true, false, not, if◌then◌else◌, List, [], ◌∷◌, Option, Some, None, is_some}
-use Rattle.std.specs.Option.{option_map}
+use Rattle.std.specs.Option.{option_map, option_or}
 use Rattle.std.specs.List.{filter_map}
 use Rattle.std.specs.Ordering.{nat_cmp, eq_by_cmp}
 use Rattle.std.specs.Cmp.Lexicographic.{slice_cmp}
@@ -66,15 +66,10 @@ fault_of names contents index item =
     (if is_some (map.get names item.0) then Some (Twice index) else
     (if differs contents item.1 then Some (InodeDiffers index) else None))
 
--- the first fault, if there is one
-abbrev pub first_of : Option TreeError → Option TreeError → Option TreeError
-first_of None later = later
-first_of (Some fault) later = Some fault
-
 -- the first fault of the entries behind those with these names and bytes, from the place of the first of them
 abbrev pub fault_from : Names → Contents → ℕ → List (Path × Entry) → Option TreeError
 fault_from names contents index [] = None
-fault_from names contents index (item ∷ items) = first_of (fault_of names contents index item) (fault_from (with_name names item) (with_contents contents item) (index + 1) items)
+fault_from names contents index (item ∷ items) = option_or (fault_of names contents index item) (fault_from (with_name names item) (with_contents contents item) (index + 1) items)
 
 abbrev pub root_names : Names
 root_names = map.insert map.empty [] DirNode

@@ -5,7 +5,7 @@ ghost use Rattle.std.specs.FinMap as map;
 ghost use Rattle.fs_model.specs.declared.node.Node.TheVariants.{Sym};
 ghost use Rattle.fs_model.specs.Calls.{Stats, Lists, ReadsAt, ReadsLink, Creates, WritesAt, MakesDir, MakesSymlink, Links, Renames, Unlinks, RemovesDir, SyncsFile, SyncsDir, children};
 ghost use Rattle.fs_model.specs.Reading.{stat_of, Reads};
-ghost use Rattle.fs_model.specs.Trail.{Steps, HasCause, error_of};
+ghost use Rattle.fs_model.specs.Trail.{Steps, HasCause, OthersStay, error_of};
 ghost use Rattle.fs_model.specs.WellFormed.{WellFormed};
 ghost use Rattle.fs_mem.specs.History.{Ends, trail_of, counts_of, is_firm, depth_of};
 
@@ -34,6 +34,7 @@ impl Fs for MemFs {
         ensures gives { true ≡ true → IfOk result (λ stat. stat_of (trail_of self.old).present at.now ≡ Some stat) }
         ensures size { IfOk result (λ stat. stat.size ≤ 2 ^ 63 - 1) }
         ensures cause { HasCause (is_firm self.old) (counts_of self.old) (counts_of self.new) (error_of result) }
+        ensures others { OthersStay (counts_of self.old) (counts_of self.new) (error_of result) }
     {
         let state = self.open()?;
         let stat = reading::stat(self.alloc(), &state, at);
@@ -49,6 +50,7 @@ impl Fs for MemFs {
         ensures shallow { OnOk result (length at.now < depth_of self.old) }
         ensures gives { true ≡ true → IfOk result (λ names. names.items ≡ children (trail_of self.old).present.names at.now) }
         ensures cause { HasCause (is_firm self.old) (counts_of self.old) (counts_of self.new) (error_of result) }
+        ensures others { OthersStay (counts_of self.old) (counts_of self.new) (error_of result) }
     {
         let state = self.open()?;
         let names = reading::list(alloc, &state, at);
@@ -65,6 +67,7 @@ impl Fs for MemFs {
         ensures gives { true ≡ true → IfOk result (λ count. Reads (trail_of self.old).present at.now from count into.new) }
         ensures count { IfOk result (λ count. count ≤ length into.old) }
         ensures cause { HasCause (is_firm self.old) (counts_of self.old) (counts_of self.new) (error_of result) }
+        ensures others { OthersStay (counts_of self.old) (counts_of self.new) (error_of result) }
     {
         let state = self.open()?;
         let count = reading::read_at(self.alloc(), &state, at, from, into);
@@ -79,6 +82,7 @@ impl Fs for MemFs {
         ensures steps { true ≡ true → Steps (ReadsLink at.now) (error_of result) (trail_of self.old) (trail_of self.new) }
         ensures gives { true ≡ true → IfOk result (λ target. map.get (trail_of self.old).present.names at.now ≡ Some (Sym target)) }
         ensures cause { HasCause (is_firm self.old) (counts_of self.old) (counts_of self.new) (error_of result) }
+        ensures others { OthersStay (counts_of self.old) (counts_of self.new) (error_of result) }
     {
         let state = self.open()?;
         let target = reading::read_link(alloc, &state, at);
@@ -91,6 +95,7 @@ impl Fs for MemFs {
         ensures ends { Ends self.old (Creates at.now) (error_of result) self.new }
         ensures steps { true ≡ true → Steps (Creates at.now) (error_of result) (trail_of self.old) (trail_of self.new) }
         ensures cause { HasCause (is_firm self.old) (counts_of self.old) (counts_of self.new) (error_of result) }
+        ensures others { OthersStay (counts_of self.old) (counts_of self.new) (error_of result) }
     {
         let state = self.open()?;
         let wanted = changing::create(self.alloc(), &state, at);
@@ -104,6 +109,7 @@ impl Fs for MemFs {
         ensures ends { Ends self.old (WritesAt at.now from bytes.now) (error_of result) self.new }
         ensures steps { true ≡ true → Steps (WritesAt at.now from bytes.now) (error_of result) (trail_of self.old) (trail_of self.new) }
         ensures cause { HasCause (is_firm self.old) (counts_of self.old) (counts_of self.new) (error_of result) }
+        ensures others { OthersStay (counts_of self.old) (counts_of self.new) (error_of result) }
     {
         let state = self.open()?;
         let wanted = changing::write_at(self.alloc(), &state, at, from, bytes);
@@ -116,6 +122,7 @@ impl Fs for MemFs {
         ensures ends { Ends self.old (MakesDir at.now) (error_of result) self.new }
         ensures steps { true ≡ true → Steps (MakesDir at.now) (error_of result) (trail_of self.old) (trail_of self.new) }
         ensures cause { HasCause (is_firm self.old) (counts_of self.old) (counts_of self.new) (error_of result) }
+        ensures others { OthersStay (counts_of self.old) (counts_of self.new) (error_of result) }
     {
         let state = self.open()?;
         let wanted = changing::make_dir(self.alloc(), &state, at);
@@ -128,6 +135,7 @@ impl Fs for MemFs {
         ensures ends { Ends self.old (MakesSymlink at.now target.now) (error_of result) self.new }
         ensures steps { true ≡ true → Steps (MakesSymlink at.now target.now) (error_of result) (trail_of self.old) (trail_of self.new) }
         ensures cause { HasCause (is_firm self.old) (counts_of self.old) (counts_of self.new) (error_of result) }
+        ensures others { OthersStay (counts_of self.old) (counts_of self.new) (error_of result) }
     {
         let state = self.open()?;
         let wanted = changing::make_symlink(self.alloc(), &state, at, target);
@@ -140,6 +148,7 @@ impl Fs for MemFs {
         ensures ends { Ends self.old (Links from.now to.now) (error_of result) self.new }
         ensures steps { true ≡ true → Steps (Links from.now to.now) (error_of result) (trail_of self.old) (trail_of self.new) }
         ensures cause { HasCause (is_firm self.old) (counts_of self.old) (counts_of self.new) (error_of result) }
+        ensures others { OthersStay (counts_of self.old) (counts_of self.new) (error_of result) }
     {
         let state = self.open()?;
         let wanted = changing::link(self.alloc(), &state, from, to);
@@ -152,6 +161,7 @@ impl Fs for MemFs {
         ensures ends { Ends self.old (Renames from.now to.now) (error_of result) self.new }
         ensures steps { true ≡ true → Steps (Renames from.now to.now) (error_of result) (trail_of self.old) (trail_of self.new) }
         ensures cause { HasCause (is_firm self.old) (counts_of self.old) (counts_of self.new) (error_of result) }
+        ensures others { OthersStay (counts_of self.old) (counts_of self.new) (error_of result) }
     {
         let state = self.open()?;
         let wanted = changing::rename(self.alloc(), &state, from, to);
@@ -164,6 +174,7 @@ impl Fs for MemFs {
         ensures ends { Ends self.old (Unlinks at.now) (error_of result) self.new }
         ensures steps { true ≡ true → Steps (Unlinks at.now) (error_of result) (trail_of self.old) (trail_of self.new) }
         ensures cause { HasCause (is_firm self.old) (counts_of self.old) (counts_of self.new) (error_of result) }
+        ensures others { OthersStay (counts_of self.old) (counts_of self.new) (error_of result) }
     {
         let state = self.open()?;
         let wanted = changing::unlink(self.alloc(), &state, at);
@@ -176,6 +187,7 @@ impl Fs for MemFs {
         ensures ends { Ends self.old (RemovesDir at.now) (error_of result) self.new }
         ensures steps { true ≡ true → Steps (RemovesDir at.now) (error_of result) (trail_of self.old) (trail_of self.new) }
         ensures cause { HasCause (is_firm self.old) (counts_of self.old) (counts_of self.new) (error_of result) }
+        ensures others { OthersStay (counts_of self.old) (counts_of self.new) (error_of result) }
     {
         let state = self.open()?;
         let wanted = changing::remove_dir(self.alloc(), &state, at);
@@ -188,6 +200,7 @@ impl Fs for MemFs {
         ensures ends { Ends self.old (SyncsFile at.now) (error_of result) self.new }
         ensures steps { true ≡ true → Steps (SyncsFile at.now) (error_of result) (trail_of self.old) (trail_of self.new) }
         ensures cause { HasCause (is_firm self.old) (counts_of self.old) (counts_of self.new) (error_of result) }
+        ensures others { OthersStay (counts_of self.old) (counts_of self.new) (error_of result) }
     {
         let state = self.open()?;
         let wanted = changing::sync_file(self.alloc(), &state, at);
@@ -200,6 +213,7 @@ impl Fs for MemFs {
         ensures ends { Ends self.old (SyncsDir at.now) (error_of result) self.new }
         ensures steps { true ≡ true → Steps (SyncsDir at.now) (error_of result) (trail_of self.old) (trail_of self.new) }
         ensures cause { HasCause (is_firm self.old) (counts_of self.old) (counts_of self.new) (error_of result) }
+        ensures others { OthersStay (counts_of self.old) (counts_of self.new) (error_of result) }
     {
         let state = self.open()?;
         let wanted = changing::sync_dir(self.alloc(), &state, at);

@@ -1,6 +1,6 @@
 // A sink in memory.
 ghost use Rattle.std.specs.Prelude.{◌≡◌, ◌++◌, [], true, OnOk};
-ghost use Rattle.fs_model.specs.Output.{SinkHasCause};
+ghost use Rattle.fs_model.specs.Output.{SinkHasCause, IsPartPut};
 ghost use Rattle.fs_mem.specs.Output.{Puts, more, sink_counts};
 
 use fs_model::{Sink, SinkError};
@@ -53,19 +53,10 @@ impl MemSink {
     {
         &self.bytes
     }
-}
 
-impl Sink for MemSink {
-    ghost told = { λ _. true };
-
-    ghost written = { λ s. s.bytes };
-
-    ghost counts = { sink_counts };
-
-    fn put(&mut self, bytes: &[u8]) -> Result<(), SinkError>
-        ensures told { true ≡ true }
+    // Appends all of the bytes, unless this put is to fail or memory lacks.
+    fn append(&mut self, bytes: &[u8]) -> Result<(), SinkError>
         ensures puts { Puts self.old bytes.now result self.new }
-        ensures appended { OnOk result (self.new.bytes ≡ self.old.bytes ++ bytes.now) }
         ensures cause { SinkHasCause (sink_counts self.old) (sink_counts self.new) result }
     {
         if self.failing.contains(&self.puts) {
@@ -79,5 +70,23 @@ impl Sink for MemSink {
         }
         self.puts = one_more(self.puts);
         Ok(())
+    }
+}
+
+impl Sink for MemSink {
+    ghost told = { λ _. true };
+
+    ghost written = { λ s. s.bytes };
+
+    ghost counts = { sink_counts };
+
+    fn put(&mut self, bytes: &[u8]) -> Result<(), SinkError>
+        ensures told { true ≡ true }
+        ensures puts { Puts self.old bytes.now result self.new }
+        ensures appended { OnOk result (self.new.bytes ≡ self.old.bytes ++ bytes.now) }
+        ensures part { true ≡ true → IsPartPut self.old.bytes bytes.now self.new.bytes }
+        ensures cause { SinkHasCause (sink_counts self.old) (sink_counts self.new) result }
+    {
+        self.append(bytes)
     }
 }

@@ -2,6 +2,7 @@
 ghost use Rattle.std.specs.Prelude.{◌≡◌, ◌≢◌, None, Some, IfOk, IfErr, OnOk};
 ghost use Rattle.std.specs.Option.{option_copied};
 ghost use Rattle.fs_mem.specs.declared.error.TreeError.TheVariants.{OutOfMemory};
+ghost use Rattle.fs_model.specs.Names.{parent};
 ghost use Rattle.fs_mem.specs.Tree.{is_dir, differs, with_name, with_contents, with_device, fault_of, tree_fault, opening_of};
 
 use crate::tree::entry_node;
@@ -31,6 +32,32 @@ fn has_other_bytes(contents: &InodeMap<Bytes>, entry: &Entry) -> bool
     }
 }
 
+// Why the entry of this place can't stand behind those that the maps were made of, where its directory is this one. Takes
+// no memory.
+fn test_placed(
+    names: &PathMap<Node>,
+    contents: &InodeMap<Bytes>,
+    dir: &Path,
+    index: usize,
+    item: &(Path, Entry),
+) -> Result<(), TreeError>
+    requires dir { dir.now ≡ parent item.now.0 }
+    ensures ok { OnOk result (fault_of names.now contents.now index item.now ≡ None) }
+    ensures err { IfErr result (λ e. fault_of names.now contents.now index item.now ≡ Some e) }
+{
+    let (path, entry) = item;
+    if !is_directory(names.get(dir)) {
+        return Err(TreeError::NoParent(index));
+    }
+    if names.get(path).is_some() {
+        return Err(TreeError::Twice(index));
+    }
+    if has_other_bytes(contents, entry) {
+        return Err(TreeError::InodeDiffers(index));
+    }
+    Ok(())
+}
+
 // Why the entry of this place can't stand behind those that the maps were made of.
 fn test_entry(
     names: &PathMap<Node>,
@@ -41,18 +68,8 @@ fn test_entry(
     ensures ok { OnOk result (fault_of names.now contents.now index item.now ≡ None) }
     ensures err { IfErr result (λ e. e ≢ OutOfMemory → fault_of names.now contents.now index item.now ≡ Some e) }
 {
-    let (path, entry) = item;
-    let parent = path.parent()?;
-    if !is_directory(names.get(&parent)) {
-        return Err(TreeError::NoParent(index));
-    }
-    if names.get(path).is_some() {
-        return Err(TreeError::Twice(index));
-    }
-    if has_other_bytes(contents, entry) {
-        return Err(TreeError::InodeDiffers(index));
-    }
-    Ok(())
+    let dir = item.0.parent()?;
+    test_placed(names, contents, &dir, index, item)
 }
 
 // Puts the entry into the maps.
@@ -77,7 +94,7 @@ fn put_entry(
 }
 
 /// The state that holds the tree, all of it on the disk. The root has device 0.
-pub fn opened(alloc: Global, tree: &Tree) -> Result<State, TreeError>
+pub(crate) fn opened(alloc: Global, tree: &Tree) -> Result<State, TreeError>
     ensures ok { IfOk result (λ state. state ≡ opening_of tree.now) }
     ensures sound { OnOk result (tree_fault tree.now ≡ None) }
     ensures err { IfErr result (λ e. e ≢ OutOfMemory → tree_fault tree.now ≡ Some e) }

@@ -50,7 +50,7 @@ impl Tree {
 }
 
 /// The node of an entry.
-pub fn entry_node(entry: &Entry) -> Result<Node, AllocError>
+pub(crate) fn entry_node(entry: &Entry) -> Result<Node, AllocError>
     ensures { IfOk result (λ node. node ≡ node_of entry.now) }
 {
     Ok(match entry {
@@ -81,7 +81,7 @@ fn entry_in(alloc: Global, state: &State, at: &Path) -> Result<Option<Entry>, Al
 }
 
 /// What stands now, without the root, in ascending order of the paths.
-pub fn standing(alloc: Global, state: &State) -> Result<Tree, AllocError>
+pub(crate) fn standing(alloc: Global, state: &State) -> Result<Tree, AllocError>
     ensures { IfOk result (λ tree. tree ≡ tree_of state.now) }
 {
     let mut entries = Vec::new(alloc);

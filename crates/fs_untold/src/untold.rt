@@ -6,7 +6,7 @@ ghost use Rattle.fs_model.specs.declared.node.Node.TheVariants.{Sym};
 ghost use Rattle.fs_model.specs.declared.error.FsError.TheVariants.{NotFound};
 ghost use Rattle.fs_model.specs.Calls.{Stats, Lists, ReadsAt, ReadsLink, Creates, WritesAt, MakesDir, MakesSymlink, Links, Renames, Unlinks, RemovesDir, SyncsFile, SyncsDir, children};
 ghost use Rattle.fs_model.specs.Reading.{stat_of, Reads};
-ghost use Rattle.fs_model.specs.Trail.{Steps, HasCause, error_of};
+ghost use Rattle.fs_model.specs.Trail.{Steps, HasCause, OthersStay, error_of};
 ghost use Rattle.fs_model.specs.WellFormed.{WellFormed};
 ghost use Rattle.fs_mem.specs.History.{trail_of, is_firm, depth_of};
 ghost use Rattle.fs_untold.specs.Losing.{Passes, losing_counts, one_loss, counted};
@@ -98,6 +98,7 @@ impl Fs for Untold {
         ensures gives { false ≡ true → IfOk result (λ stat. stat_of (trail_of self.old.inner).present at.now ≡ Some stat) }
         ensures size { IfOk result (λ stat. stat.size ≤ 2 ^ 63 - 1) }
         ensures cause { HasCause (is_firm self.old.inner) (losing_counts self.old) (losing_counts self.new) (error_of result) }
+        ensures others { OthersStay (losing_counts self.old) (losing_counts self.new) (error_of result) }
     {
         if self.loses() {
             return Err(self.lost());
@@ -116,6 +117,7 @@ impl Fs for Untold {
         ensures shallow { OnOk result (length at.now < depth_of self.old.inner) }
         ensures gives { false ≡ true → IfOk result (λ names. names.items ≡ children (trail_of self.old.inner).present.names at.now) }
         ensures cause { HasCause (is_firm self.old.inner) (losing_counts self.old) (losing_counts self.new) (error_of result) }
+        ensures others { OthersStay (losing_counts self.old) (losing_counts self.new) (error_of result) }
     {
         if self.loses() {
             return Err(self.lost());
@@ -135,6 +137,7 @@ impl Fs for Untold {
         ensures gives { false ≡ true → IfOk result (λ count. Reads (trail_of self.old.inner).present at.now from count into.new) }
         ensures count { IfOk result (λ count. count ≤ length into.old) }
         ensures cause { HasCause (is_firm self.old.inner) (losing_counts self.old) (losing_counts self.new) (error_of result) }
+        ensures others { OthersStay (losing_counts self.old) (losing_counts self.new) (error_of result) }
     {
         if self.loses() {
             return Err(self.lost());
@@ -152,6 +155,7 @@ impl Fs for Untold {
         ensures steps { false ≡ true → Steps (ReadsLink at.now) (error_of result) (trail_of self.old.inner) (trail_of self.new.inner) }
         ensures gives { false ≡ true → IfOk result (λ target. map.get (trail_of self.old.inner).present.names at.now ≡ Some (Sym target)) }
         ensures cause { HasCause (is_firm self.old.inner) (losing_counts self.old) (losing_counts self.new) (error_of result) }
+        ensures others { OthersStay (losing_counts self.old) (losing_counts self.new) (error_of result) }
     {
         if self.loses() {
             return Err(self.lost());
@@ -167,6 +171,7 @@ impl Fs for Untold {
         ensures passes { Passes self.old (Creates at.now) (error_of result) self.new }
         ensures steps { false ≡ true → Steps (Creates at.now) (error_of result) (trail_of self.old.inner) (trail_of self.new.inner) }
         ensures cause { HasCause (is_firm self.old.inner) (losing_counts self.old) (losing_counts self.new) (error_of result) }
+        ensures others { OthersStay (losing_counts self.old) (losing_counts self.new) (error_of result) }
     {
         if self.loses() {
             return Err(self.lost());
@@ -183,6 +188,7 @@ impl Fs for Untold {
         ensures passes { Passes self.old (WritesAt at.now from bytes.now) (error_of result) self.new }
         ensures steps { false ≡ true → Steps (WritesAt at.now from bytes.now) (error_of result) (trail_of self.old.inner) (trail_of self.new.inner) }
         ensures cause { HasCause (is_firm self.old.inner) (losing_counts self.old) (losing_counts self.new) (error_of result) }
+        ensures others { OthersStay (losing_counts self.old) (losing_counts self.new) (error_of result) }
     {
         if self.loses() {
             return Err(self.lost());
@@ -198,6 +204,7 @@ impl Fs for Untold {
         ensures passes { Passes self.old (MakesDir at.now) (error_of result) self.new }
         ensures steps { false ≡ true → Steps (MakesDir at.now) (error_of result) (trail_of self.old.inner) (trail_of self.new.inner) }
         ensures cause { HasCause (is_firm self.old.inner) (losing_counts self.old) (losing_counts self.new) (error_of result) }
+        ensures others { OthersStay (losing_counts self.old) (losing_counts self.new) (error_of result) }
     {
         if self.loses() {
             return Err(self.lost());
@@ -213,6 +220,7 @@ impl Fs for Untold {
         ensures passes { Passes self.old (MakesSymlink at.now target.now) (error_of result) self.new }
         ensures steps { false ≡ true → Steps (MakesSymlink at.now target.now) (error_of result) (trail_of self.old.inner) (trail_of self.new.inner) }
         ensures cause { HasCause (is_firm self.old.inner) (losing_counts self.old) (losing_counts self.new) (error_of result) }
+        ensures others { OthersStay (losing_counts self.old) (losing_counts self.new) (error_of result) }
     {
         if self.loses() {
             return Err(self.lost());
@@ -228,6 +236,7 @@ impl Fs for Untold {
         ensures passes { Passes self.old (Links from.now to.now) (error_of result) self.new }
         ensures steps { false ≡ true → Steps (Links from.now to.now) (error_of result) (trail_of self.old.inner) (trail_of self.new.inner) }
         ensures cause { HasCause (is_firm self.old.inner) (losing_counts self.old) (losing_counts self.new) (error_of result) }
+        ensures others { OthersStay (losing_counts self.old) (losing_counts self.new) (error_of result) }
     {
         if self.loses() {
             return Err(self.lost());
@@ -243,6 +252,7 @@ impl Fs for Untold {
         ensures passes { Passes self.old (Renames from.now to.now) (error_of result) self.new }
         ensures steps { false ≡ true → Steps (Renames from.now to.now) (error_of result) (trail_of self.old.inner) (trail_of self.new.inner) }
         ensures cause { HasCause (is_firm self.old.inner) (losing_counts self.old) (losing_counts self.new) (error_of result) }
+        ensures others { OthersStay (losing_counts self.old) (losing_counts self.new) (error_of result) }
     {
         if self.loses() {
             return Err(self.lost());
@@ -258,6 +268,7 @@ impl Fs for Untold {
         ensures passes { Passes self.old (Unlinks at.now) (error_of result) self.new }
         ensures steps { false ≡ true → Steps (Unlinks at.now) (error_of result) (trail_of self.old.inner) (trail_of self.new.inner) }
         ensures cause { HasCause (is_firm self.old.inner) (losing_counts self.old) (losing_counts self.new) (error_of result) }
+        ensures others { OthersStay (losing_counts self.old) (losing_counts self.new) (error_of result) }
     {
         if self.loses() {
             return Err(self.lost());
@@ -273,6 +284,7 @@ impl Fs for Untold {
         ensures passes { Passes self.old (RemovesDir at.now) (error_of result) self.new }
         ensures steps { false ≡ true → Steps (RemovesDir at.now) (error_of result) (trail_of self.old.inner) (trail_of self.new.inner) }
         ensures cause { HasCause (is_firm self.old.inner) (losing_counts self.old) (losing_counts self.new) (error_of result) }
+        ensures others { OthersStay (losing_counts self.old) (losing_counts self.new) (error_of result) }
     {
         if self.loses() {
             return Err(self.lost());
@@ -288,6 +300,7 @@ impl Fs for Untold {
         ensures passes { Passes self.old (SyncsFile at.now) (error_of result) self.new }
         ensures steps { false ≡ true → Steps (SyncsFile at.now) (error_of result) (trail_of self.old.inner) (trail_of self.new.inner) }
         ensures cause { HasCause (is_firm self.old.inner) (losing_counts self.old) (losing_counts self.new) (error_of result) }
+        ensures others { OthersStay (losing_counts self.old) (losing_counts self.new) (error_of result) }
     {
         if self.loses() {
             return Err(self.lost());
@@ -303,6 +316,7 @@ impl Fs for Untold {
         ensures passes { Passes self.old (SyncsDir at.now) (error_of result) self.new }
         ensures steps { false ≡ true → Steps (SyncsDir at.now) (error_of result) (trail_of self.old.inner) (trail_of self.new.inner) }
         ensures cause { HasCause (is_firm self.old.inner) (losing_counts self.old) (losing_counts self.new) (error_of result) }
+        ensures others { OthersStay (losing_counts self.old) (losing_counts self.new) (error_of result) }
     {
         if self.loses() {
             return Err(self.lost());

@@ -3,7 +3,7 @@ use Rattle.fs_model.specs.Calls.{Links}
 use Rattle.fs_model.specs.Trail.{error_of}
 use Rattle.fs_mem.specs.History.{Ends}
 use Rattle.fs_mem.proofs.Replay.{steps}
-use Rattle.fs_mem.proofs.Causes.{cause, firm_kept}
+use Rattle.fs_mem.proofs.Causes.{cause, others, firm_kept}
 use Rattle.fs_mem.proofs.calls.MemFsFs.link.Goals as goal
 
 ends : goal.returns-clause-ends
@@ -22,3 +22,6 @@ returns-clause-steps c _ = steps c.args.self.now c.close.new.self (Links c.args.
 
 pub returns-clause-cause : goal.returns-clause-cause
 returns-clause-cause c = cause c.args.self.now c.close.new.self (Links c.args.from.now c.args.to.now) (error_of c.close.result) (ends c)
+
+pub returns-clause-others : goal.returns-clause-others
+returns-clause-others c = others c.args.self.now c.close.new.self (Links c.args.from.now c.args.to.now) (error_of c.close.result) (ends c)

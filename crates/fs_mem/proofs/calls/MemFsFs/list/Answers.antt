@@ -3,7 +3,7 @@ use Rattle.fs_model.specs.Calls.{Lists}
 use Rattle.fs_model.specs.Trail.{error_of}
 use Rattle.fs_mem.specs.History.{Ends}
 use Rattle.fs_mem.proofs.Replay.{reads, steps}
-use Rattle.fs_mem.proofs.Causes.{cause, firm_kept, depth_kept, shallow}
+use Rattle.fs_mem.proofs.Causes.{cause, others, firm_kept, depth_kept, shallow}
 use Rattle.fs_mem.proofs.calls.MemFsFs.list.Goals as goal
 
 pub close_reading-requires-clause-wanted : goal.close_reading-requires-clause-wanted
@@ -30,6 +30,9 @@ returns-clause-steps c _ = steps c.args.self.now c.close_reading.new.self (Lists
 
 pub returns-clause-cause : goal.returns-clause-cause
 returns-clause-cause c = cause c.args.self.now c.close_reading.new.self (Lists c.args.at.now) (error_of c.close_reading.result) (ends c)
+
+pub returns-clause-others : goal.returns-clause-others
+returns-clause-others c = others c.args.self.now c.close_reading.new.self (Lists c.args.at.now) (error_of c.close_reading.result) (ends c)
 
 pub returns-clause-shallow : goal.returns-clause-shallow
 returns-clause-shallow c = shallow c.args.self.now c.close_reading.new.self c.args.at.now c.close_reading.result (ends c)

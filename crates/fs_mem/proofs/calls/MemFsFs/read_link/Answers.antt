@@ -3,7 +3,7 @@ use Rattle.fs_model.specs.Calls.{ReadsLink}
 use Rattle.fs_model.specs.Trail.{error_of}
 use Rattle.fs_mem.specs.History.{Ends}
 use Rattle.fs_mem.proofs.Replay.{reads, steps}
-use Rattle.fs_mem.proofs.Causes.{cause, firm_kept, depth_kept}
+use Rattle.fs_mem.proofs.Causes.{cause, others, firm_kept, depth_kept}
 use Rattle.fs_mem.proofs.calls.MemFsFs.read_link.Goals as goal
 
 pub close_reading-requires-clause-wanted : goal.close_reading-requires-clause-wanted
@@ -30,3 +30,6 @@ returns-clause-steps c _ = steps c.args.self.now c.close_reading.new.self (Reads
 
 pub returns-clause-cause : goal.returns-clause-cause
 returns-clause-cause c = cause c.args.self.now c.close_reading.new.self (ReadsLink c.args.at.now) (error_of c.close_reading.result) (ends c)
+
+pub returns-clause-others : goal.returns-clause-others
+returns-clause-others c = others c.args.self.now c.close_reading.new.self (ReadsLink c.args.at.now) (error_of c.close_reading.result) (ends c)
