@@ -1,2 +1,11 @@
 pub mod Frame
 pub mod Upgrade
+pub mod Places
+pub mod Sound
+pub mod Crashes
+pub mod Lacks
+pub mod Calling
+pub mod Marked
+pub mod Tracked
+pub mod Synced
+pub mod Lasting
