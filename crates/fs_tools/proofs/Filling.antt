@@ -1,5 +1,5 @@
 -- A slice that is filled by one read after another.
-use Rattle.std.proofs.Common.{◌≡◌, ◌≤◌, ◌+◌, ◌-◌, ◌++◌, ◌∙◌, ℕ, List, length, take, drop, min, Option, Some, None, Result, Ok, Err, IfOk, ap, sym, subst, arith, length-take, inl, inr, ◌⊎◌, true}
+use Rattle.std.proofs.Common.{◌≡◌, ◌≤◌, ◌+◌, ◌-◌, ◌++◌, ◌∙◌, ℕ, List, length, take, drop, min, Option, Some, None, Result, Ok, Err, IfOk, ap, refl, sym, subst, arith, length-take, inl, inr, ◌⊎◌, true}
 use Rattle.std.specs.Prelude.{IfSome, is_some}
 use Rattle.std.proofs.Math.Seq.{take-append-add, take-add}
 use Rattle.std.proofs.lemmas.List.{take-append-le, take_all}
@@ -52,3 +52,10 @@ whole_file s path size count into of_size is_size filled ended stands = of (file
     of (Some bytes) of_size filled ended stands =
         let all : length bytes ≤ count = elim ended [ inl full ↦ omega arith | inr all ↦ all ] in
         ap (λ b. Some b) (sym (filled.1 ∙ take_all count bytes all))
+
+pub filled_none : (s : FsState) (path : Path) (into : List ℕ) → Filled s path 0 into
+filled_none s path into = of (file_bytes s path)
+  where
+    of : (found : Option (List ℕ)) → IfSome found (λ bytes. (0 ≤ length bytes) × (take 0 into ≡ take 0 bytes))
+    of None = tt
+    of (Some bytes) = (omega arith, refl)

@@ -1,2 +1,11 @@
+pub mod Answering
+pub mod Clearing
+pub mod Copying
+pub mod DiskKeeping
 pub mod Filling
+pub mod Gathering
 pub mod Making
+pub mod Naming
+pub mod Reruns
+pub mod TreeSyncing
+pub mod Walking

@@ -1,24 +1,25 @@
 -- A file that is created and then written.
-use Rattle.std.proofs.Common.{◌≡◌, ◌++◌, ◌+◌, ◌∙◌, ℕ, List, [], ◌∷◌, length, Option, Some, None, Result, Ok, Err, OnOk, refl, sym, ap, arith, inl, length-append}
+use Rattle.std.proofs.Common.{◌≡◌, ◌≢◌, MatchOption, ◌++◌, ◌+◌, ◌∙◌, ℕ, List, [], ◌∷◌, length, Option, Some, None, Result, Ok, Err, OnOk, refl, sym, ap, arith, inl, length-append}
 use Rattle.std.proofs.Math.Seq.{drop-nil}
 use Rattle.std.specs.Option.{unwrap_or}
 use Rattle.std.specs.FinMap.{get}
 use Rattle.fs_model.specs.declared.node.Node.TheVariants.{File}
-use Rattle.fs_model.specs.declared.effect.Effect.TheVariants.{NewFile}
+use Rattle.fs_model.specs.declared.effect.Effect.{Effect}
+use Rattle.fs_model.specs.declared.effect.Effect.TheVariants.{NewFile, Nothing}
 use Rattle.fs_model.specs.declared.error.FsError.{FsError}
 use Rattle.fs_model.specs.declared.error.FsError.TheVariants.{NotFound, Exists, NotDir, WrongKind, NotEmpty, CrossDevice, CrossDir, Failed, OutOfMemory}
 use Rattle.fs_model.specs.Names.{Path}
 use Rattle.fs_model.specs.State.{FsState, Names}
 use Rattle.fs_model.specs.Effects.{apply, with_bytes, set_name, bytes_of}
-use Rattle.fs_model.specs.Calls.{Creates, WritesAt, refusal, blocked, or_else, no_file, taken, overwritten}
-use Rattle.fs_model.specs.Trail.{Trail, Steps, Since, DecidedBy, error_of}
+use Rattle.fs_model.specs.Calls.{Call, Creates, WritesAt, MayDo, MayFail, refusal, blocked, or_else, no_file, taken, overwritten}
+use Rattle.fs_model.specs.Trail.{Trail, Steps, Goes, on, Unchanged, DecidedBy, error_of}
 use Rattle.fs_model.proofs.Lookups.{set_name_here, insert_here}
-use Rattle.fs_model.proofs.Runs.{present_after, since_then, steps_decided}
+use Rattle.fs_model.proofs.Runs.{present_after, steps_since, steps_decided}
+use Rattle.fs_model.proofs.Going.{goes_one}
 use Rattle.fs_model.proofs.Ways.{blocked_set, none_first}
-use Rattle.crash_safety.specs.Frame.{Within, IsMadeSince}
-use Rattle.crash_safety.proofs.Keeping.{within_start}
-use Rattle.crash_safety.proofs.Runs.{call_since}
-use Rattle.fs_tools.specs.Made.{MakesFile}
+use Rattle.crash_safety.specs.Frame.{IsMadeSince}
+use Rattle.crash_safety.specs.Calling.{MakesWithin}
+use Rattle.fs_tools.specs.Made.{Makes, MakesFile}
 
 pub append-nil : (path : Path) → path ++ [] ≡ path
 append-nil [] = refl
@@ -35,7 +36,7 @@ created_writable s path inode from bytes free =
     (λ i. or_else (own_way s.names path (Some (File inode)) i) (no_file (set_name_here s.names path (Some (File inode)) i)))
     ∙ ap (λ way. or_else way None) (none_first (blocked s.names path) (taken (get s.names path)) free)
 
-append-nil-bytes : (xs : List ℕ) → xs ++ [] ≡ xs
+pub append-nil-bytes : (xs : List ℕ) → xs ++ [] ≡ xs
 append-nil-bytes [] = refl
 append-nil-bytes (x ∷ xs) = ap (λ rest. x ∷ rest) (append-nil-bytes xs)
 
@@ -74,12 +75,10 @@ module _ (path : Path) (bytes : List ℕ) (old mid : Trail) (created : Steps (Cr
       decided (Err CrossDevice) by = absurd (let e = never_refused 0 in cc (e, by))
       decided (Err CrossDir) by = absurd (let e = never_refused 0 in cc (e, by))
 
-  -- every state on the way
-  pub both_within : (answer : Option FsError) (new : Trail) → Steps (WritesAt path 0 bytes) answer mid new → Since (Within (path ∷ []) old.present) old new
-  both_within answer new steps =
-      let first = call_since (path ∷ []) old.present (Creates path) None old mid (within_start (path ∷ []) old.present) (inl ([], sym (append-nil path))) created in
-      since_then (Within (path ∷ []) old.present) old mid new first
-      (call_since (path ∷ []) old.present (WritesAt path 0 bytes) answer mid new first.present made_here steps)
+  -- both calls
+  pub both_made : (answer : Option FsError) (new : Trail) → Steps (WritesAt path 0 bytes) answer mid new → Goes (Makes path old.present) old new
+  both_made answer new steps =
+      on (goes_one (Makes path old.present) (Creates path) None old mid refl created) (WritesAt path 0 bytes) answer (refl, made_here) steps
 
   pub made_whole : (new : Trail) → Steps (WritesAt path 0 bytes) None mid new → MakesFile old.present path bytes new.present
   made_whole new steps =
@@ -99,3 +98,23 @@ module _ (path : Path) (bytes : List ℕ) (old mid : Trail) where
   pub ok_made : {T : Type 0} (result : Result T FsError) (new : Trail) → Steps (Creates path) None old mid → Steps (WritesAt path 0 bytes) (error_of result) mid new → OnOk result (MakesFile old.present path bytes new.present)
   ok_made (Ok value) new created steps = made_whole path bytes old mid created new steps
   ok_made (Err error) new created steps = tt
+
+-- a call that its state refuses changes nothing, whatever it answers
+pub refused_nothing : (s : FsState) (call : Call) (answer : Option FsError) (effect : Effect) → refusal s call ≢ None → MayDo s call answer effect → apply s effect ≡ s
+refused_nothing s call None effect refused may = absurd (refused may.0)
+refused_nothing s call (Some Failed) effect refused may = failed (refusal s call) refused may
+  where
+    failed : (found : Option FsError) → found ≢ None → MatchOption found (MayFail s call effect) (λ _. effect ≡ Nothing) → apply s effect ≡ s
+    failed None refused may = absurd (refused refl)
+    failed (Some error) refused may = ap (apply s) may
+refused_nothing s call (Some error) effect refused may = ap (apply s) may.1
+
+pub refused_unchanged : (call : Call) (answer : Option FsError) (old new : Trail) → refusal old.present call ≢ None → Steps call answer old new → Unchanged old new
+refused_unchanged call answer old new refused steps =
+    steps_since (λ s. s ≡ old.present) call answer old new refl (λ effect may. refused_nothing old.present call answer effect refused may) steps
+
+-- it is a run within the path
+pub makes_within : (at : Path) (a s : FsState) (call : Call) → Makes at a s call → MakesWithin (at ∷ []) a s call
+makes_within at a s (Creates path) is = (inl ([], is ∙ sym (append-nil at)), tt)
+makes_within at a s (WritesAt path from bytes) (is, made) = (made, tt)
+makes_within at a s call none = absurd none

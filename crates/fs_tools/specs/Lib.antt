@@ -1,2 +1,9 @@
+pub mod Children
+pub mod Cleared
+pub mod Copied
+pub mod DiskKept
 pub mod Filled
+pub mod Identities
 pub mod Made
+pub mod TreeSync
+pub mod Walked

@@ -2,10 +2,21 @@
 //! what a call gives, what it leaves as it was in every state on the way, and when each error comes.
 #![tactic(auto)]
 
+mod children;
+mod clears;
+mod copies;
+mod identities;
 mod makes;
 mod reads;
+mod syncs;
 #[cfg(test)]
 mod tests;
+mod walks;
 
+pub use clears::clear_dir;
+pub use copies::copy_file;
+pub use identities::same_inode;
 pub use makes::make_file;
 pub use reads::read_all;
+pub use syncs::sync_tree;
+pub use walks::{Look, walk, walk_with};

@@ -1,5 +1,7 @@
-//! Tests of reading and making whole files over the files in memory.
+//! Tests of what is done with files and trees, over the files in memory.
 #![tactic(auto)]
 
 #[cfg(test)]
-mod tests;
+mod copies;
+#[cfg(test)]
+mod trees;
