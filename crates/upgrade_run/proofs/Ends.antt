@@ -6,6 +6,8 @@ use Rattle.fs_model.specs.State.{FsState}
 use Rattle.fs_model.specs.WellFormed.{WellFormed}
 use Rattle.fs_model.specs.Trail.{Rose}
 use Rattle.control_file.specs.declared.job.Job.{Job}
+use Rattle.upgrade_run.specs.declared.answer.PhaseName.{PhaseName}
+use Rattle.upgrade_run.specs.declared.answer.PhaseName.TheVariants.{Words, Check, Restore, Transfer}
 use Rattle.upgrade_run.specs.declared.answer.Answer.{Answer}
 use Rattle.upgrade_run.specs.declared.answer.Answer.TheVariants.{Done, Usage, Refused, FsFault, NoMemory, Moved}
 use Rattle.upgrade_run.specs.declared.carry.CarryFault.{CarryFault}
@@ -13,8 +15,8 @@ use Rattle.upgrade_run.specs.declared.refusal.Refusal.{Refusal}
 use Rattle.upgrade_run.specs.Words.{Word, Accepts}
 use Rattle.upgrade_run.specs.Conditions.{first_of, order}
 use Rattle.upgrade_run.specs.Refusals.{Passes}
-use Rattle.upgrade_run.specs.Carrying.{Carries}
-use Rattle.upgrade_run.specs.Meaning.{LeavesAll, IsDone, IsNoMemory, IsMoved, first_summary, Means, Completes, AnswersCarry}
+use Rattle.upgrade_run.specs.Carrying.{Carries, StopsAt}
+use Rattle.upgrade_run.specs.Meaning.{LeavesAll, IsDone, IsNoMemory, IsMoved, first_summary, Means, Reached, StopsIn, Completes, AnswersCarry}
 use Rattle.upgrade_run.proofs.First.{found_first, first_found}
 use Rattle.upgrade_run.proofs.Passing.{can_carry}
 use Rattle.upgrade_run.proofs.Carrying.{carries_upgraded}
@@ -31,14 +33,26 @@ done_carried new (Err fault) (Moved root change) P is done holds = absurd done
 
 -- what the answer after carrying says
 pub carried_means : (s : FsState) (job : Job) (answer : Answer) (x : FsState) → WellFormed s → Passes s job → (LeavesAll answer → ⊥) → (IsMoved answer → ⊥)
-    → (IsDone answer → Carries s job x × (answer ≡ Done first_summary)) → Means s job answer x
-carried_means s job (Done summary) x well_formed passes late allowed done =
+    → (IsDone answer → Carries s job x × (answer ≡ Done first_summary)) → StopsIn job answer x → Means s job answer x
+carried_means s job (Done summary) x well_formed passes late allowed done stops =
     (passes, carries_upgraded s job x well_formed (can_carry s job passes well_formed) (done tt).0, cc ((done tt).1))
-carried_means s job (Usage position) x well_formed passes late allowed done = late tt
-carried_means s job (Refused refusal) x well_formed passes late allowed done = absurd (late tt)
-carried_means s job (FsFault phase) x well_formed passes late allowed done = tt
-carried_means s job (NoMemory phase) x well_formed passes late allowed done = tt
-carried_means s job (Moved root change) x well_formed passes late allowed done = allowed tt
+carried_means s job (Usage position) x well_formed passes late allowed done stops = late tt
+carried_means s job (Refused refusal) x well_formed passes late allowed done stops = absurd (late tt)
+carried_means s job (FsFault phase) x well_formed passes late allowed done stops = behind phase stops
+  where
+    behind : (phase : PhaseName) → StopsAt job phase x → Reached s job phase x
+    behind Words stops = absurd stops
+    behind Check stops = absurd stops
+    behind Restore stops = (passes, stops)
+    behind Transfer stops = (passes, stops)
+carried_means s job (NoMemory phase) x well_formed passes late allowed done stops = behind phase stops
+  where
+    behind : (phase : PhaseName) → StopsAt job phase x → Reached s job phase x
+    behind Words stops = absurd stops
+    behind Check stops = absurd stops
+    behind Restore stops = (passes, stops)
+    behind Transfer stops = (passes, stops)
+carried_means s job (Moved root change) x well_formed passes late allowed done stops = allowed tt
 
 -- a refusal that was found is all that there is to answer
 pub refused_completes : (s : FsState) (job : Job) (refusal : Refusal) → first_of s job order ≡ Some refusal → Completes s job (Refused refusal)

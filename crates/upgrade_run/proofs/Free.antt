@@ -13,7 +13,7 @@ use Rattle.fs_model.specs.Trail.{DecidedBy}
 use Rattle.fs_model.proofs.Lookups.{set_name_here, set_name_other}
 use Rattle.fs_model.proofs.Ways.{blocked_push, blocked_set, none_first}
 use Rattle.crash_safety.specs.Frame.{IsOutside}
-use Rattle.crash_safety.proofs.Images.{blocked_alike}
+use Rattle.crash_safety.proofs.WithinImages.{blocked_alike}
 use Rattle.fs_tools.specs.Made.{MakesFile}
 use Rattle.fs_tools.proofs.Making.{own_way}
 

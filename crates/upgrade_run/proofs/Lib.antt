@@ -9,3 +9,5 @@ pub mod Carrying
 pub mod Crashes
 pub mod Pieces
 pub mod Ends
+pub mod Stopping
+pub mod Answering

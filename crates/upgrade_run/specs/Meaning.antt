@@ -1,5 +1,6 @@
 -- What each answer of an upgrade means, and which answers there may be.
-use Rattle.std.specs.Prelude.{◌≡◌, ◌≢◌, ◌⊎◌, Result, Ok, Err}
+use Rattle.std.specs.Prelude.{◌≡◌, ◌≢◌, ◌⊎◌, Option, Some, None, Result, Ok, Err}
+use Rattle.fs_model.specs.declared.error.FsError.{FsError}
 use Rattle.fs_model.specs.declared.error.FsError.TheVariants as error
 use Rattle.fs_model.specs.Names.{Path}
 use Rattle.fs_model.specs.State.{FsState}
@@ -14,6 +15,7 @@ use Rattle.upgrade_run.specs.declared.answer.Summary.{Summary}
 use Rattle.upgrade_run.specs.declared.carry.CarryFault.{CarryFault}
 use Rattle.upgrade_run.specs.declared.refusal.Refusal.{Refusal}
 use Rattle.upgrade_run.specs.Refusals.{IsFirst, Passes}
+use Rattle.upgrade_run.specs.Carrying.{StopsAt}
 use Rattle.upgrade_run.specs.Upgraded.{Upgraded}
 
 -- the phases that change nothing
@@ -76,19 +78,61 @@ IsMoved (Moved root change) = Unit {0}
 abbrev pub first_summary : Summary
 first_summary = record { databases = 4; tables = 1; files = 1 }
 
+-- What a phase that was not ended says of the state s that the upgrade began in, and of the state x that it ended in: up to the checks
+-- nothing was changed, and behind them all had passed.
+abbrev pub Reached : FsState → Job → PhaseName → FsState → Type 0
+Reached s job Words x = x ≡ s
+Reached s job Check x = x ≡ s
+Reached s job Restore x = Passes s job × StopsAt job Restore x
+Reached s job Transfer x = Passes s job × StopsAt job Transfer x
+
 -- what an answer says of the state s that the upgrade of the job began in, and of the state x that it ended in
 abbrev pub Means : FsState → Job → Answer → FsState → Type 0
 Means s job (Done summary) x = Passes s job × Upgraded s job x × (summary ≡ first_summary)
 Means s job (Usage position) x = ⊥
 Means s job (Refused refusal) x = IsFirst s job refusal
-Means s job (FsFault phase) x = Unit {0}
-Means s job (NoMemory phase) x = Unit {0}
+Means s job (FsFault phase) x = Reached s job phase x
+Means s job (NoMemory phase) x = Reached s job phase x
 Means s job (Moved root change) x = ⊥
 
 -- what there is to answer where the file system doesn't fail, but for want of memory
 pub record Completes (s : FsState) (job : Job) (answer : Answer) : Type 0 where
   pub refused : (refusal : Refusal) → IsFirst s job refusal → (answer ≡ Refused refusal) ⊎ IsNoMemory answer
   pub done : Passes s job → IsDone answer ⊎ IsNoMemory answer
+
+-- the file system's error that an answer tells; want of memory may be of its own
+abbrev pub error_in : Answer → Option FsError
+error_in (Done summary) = None
+error_in (Usage position) = None
+error_in (Refused refusal) = None
+error_in (FsFault phase) = Some error.Failed
+error_in (NoMemory phase) = None
+error_in (Moved root (change.Refused found)) = Some found
+
+-- the fault that an answer tells
+abbrev pub fault_in : Answer → Option FsError
+fault_in (Done summary) = None
+fault_in (Usage position) = None
+fault_in (Refused refusal) = None
+fault_in (FsFault phase) = Some error.Failed
+fault_in (NoMemory phase) = None
+fault_in (Moved root change) = None
+
+-- where carrying stopped, by the answer
+abbrev pub StopsIn : Job → Answer → FsState → Type 0
+StopsIn job (Done summary) x = Unit {0}
+StopsIn job (Usage position) x = Unit {0}
+StopsIn job (Refused refusal) x = Unit {0}
+StopsIn job (FsFault phase) x = StopsAt job phase x
+StopsIn job (NoMemory phase) x = StopsAt job phase x
+StopsIn job (Moved root change) x = Unit {0}
+
+-- Restore asks for no memory of its own
+abbrev pub LacksIn : PhaseName → Counts → Counts → Type 0
+LacksIn Words before now = Unit {0}
+LacksIn Check before now = Unit {0}
+LacksIn Restore before now = Rose before.lacks now.lacks
+LacksIn Transfer before now = Unit {0}
 
 -- A fault of the file system was counted in this run, and comes in a phase that calls it. A change by somebody else
 -- was a refusal, neither a fault nor want of memory, and is told of the new cluster.
@@ -98,7 +142,7 @@ HasOwnCause new (Moved root (change.Refused found)) before now = (root ≡ new) 
 HasOwnCause new (Done summary) before now = Unit {0}
 HasOwnCause new (Usage position) before now = ⊥
 HasOwnCause new (Refused refusal) before now = Unit {0}
-HasOwnCause new (NoMemory phase) before now = Unit {0}
+HasOwnCause new (NoMemory phase) before now = LacksIn phase before now
 
 -- the answer after a fault in carrying
 abbrev pub AnswersFault : Path → CarryFault → Answer → Type 0
@@ -106,7 +150,7 @@ AnswersFault new fault (Done summary) = ⊥
 AnswersFault new fault (Usage position) = ⊥
 AnswersFault new fault (Refused refusal) = ⊥
 AnswersFault new fault (FsFault phase) = (phase ≡ fault.at) × (fault.error ≡ error.Failed)
-AnswersFault new fault (NoMemory phase) = phase ≡ fault.at
+AnswersFault new fault (NoMemory phase) = (phase ≡ fault.at) × (fault.error ≡ error.OutOfMemory)
 AnswersFault new fault (Moved root (change.Refused found)) = (root ≡ new) × (found ≡ fault.error) × (fault.error ≢ error.Failed) × (fault.error ≢ error.OutOfMemory)
 
 -- the answer after carrying

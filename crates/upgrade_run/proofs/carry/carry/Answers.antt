@@ -1,4 +1,4 @@
-use Rattle.std.proofs.Common.{◌≡◌, ◌≢◌, ◌∙◌, ◌∷◌, [], Ok, OnOk, None, refl, ap, sym, subst}
+use Rattle.std.proofs.Common.{◌≡◌, ◌≢◌, ◌∙◌, ◌∷◌, [], Ok, OnOk, IfErr, None, refl, ap, sym, subst}
 use Rattle.std.specs.Prelude.{codes}
 use Rattle.fs_model.specs.declared.effect.Effect.TheVariants.{NewDir}
 use Rattle.fs_model.specs.Names.{parent}
@@ -13,9 +13,11 @@ use Rattle.upgrade_run.specs.declared.places.OldPlaces.{OldPlaces}
 use Rattle.upgrade_run.specs.declared.places.NewPlaces.{NewPlaces}
 use Rattle.upgrade_run.specs.Places.{database_path, database_version_path, old_table_path, new_table_path}
 use Rattle.upgrade_run.specs.Carried.{Restores, MovesFile, new_version}
-use Rattle.upgrade_run.specs.Carrying.{Carries, fault_of}
+use Rattle.upgrade_run.specs.Carrying.{Carries, StopsAt, fault_of}
 use Rattle.upgrade_run.proofs.Free.{free_beside, still_readable}
-use Rattle.upgrade_run.proofs.Phases.{ok_in_phase, fault_in_phase, on_ok, on_ok_in_phase}
+use Rattle.upgrade_run.proofs.Phases.{ok_in_phase, fault_in_phase, on_ok, on_ok_in_phase, late_in_phase}
+use Rattle.upgrade_run.specs.declared.carry.CarryFault.{CarryFault}
+use Rattle.upgrade_run.proofs.Stopping.{stops_late}
 use Rattle.upgrade_run.proofs.carry.carry.Goals as goal
 
 pub returns-clause-frame : goal.returns-clause-frame
@@ -70,3 +72,16 @@ returns-clause-carried g c told =
           (subst (λ (places : NewPlaces). MovesFile mid.present c.args.old.now.table places.table new.present) c.requires.new moves);
     })
     (c.transfer.ensures.moved (c.restore.ensures.told ∙ told)))
+
+pub returns-clause-stops : goal.returns-clause-stops
+returns-clause-stops g c told can well_formed =
+    let old = g.F.Fs.trail c.args.fs.now in
+    let mid = g.F.Fs.trail c.restore.new.fs in
+    let new = g.F.Fs.trail c.transfer.new.fs in
+    let job = c.args.job.now in
+    let ok : c.restore.result ≡ Ok c.in_ok-in_phase.field-0 = ok_in_phase Restore c.restore.result c.in_ok-in_phase.field-0 (sym c.in_phase.ensures ∙ c.in_ok-in_phase.was) in
+    let restored : Restores old.present (database_path job.new) (database_version_path job.new) mid.present =
+    subst (λ (places : NewPlaces). Restores old.present places.database places.database_version mid.present) c.requires.new (on_ok c.restore.result c.in_ok-in_phase.field-0 _ ok (c.restore.ensures.restored told)) in
+    let within : Within (new_table_path job.new ∷ []) mid.present new.present =
+    subst (λ (places : NewPlaces). Within (places.table ∷ []) mid.present new.present) c.requires.new (c.transfer.ensures.frame (c.restore.ensures.told ∙ told)).present in
+    subst (λ r. IfErr r (λ (fault : CarryFault). StopsAt job fault.at new.present)) (sym c.in_phase-2.ensures) (late_in_phase job new.present c.transfer.result (stops_late old.present mid.present new.present job restored within))

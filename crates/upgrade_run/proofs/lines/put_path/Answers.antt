@@ -11,5 +11,6 @@ loop-name-preserved g c = record {
     faults = (let a = c.loop-name.invariant.cause.faults in let b = c.put_name.ensures.cause.faults in omega arith);
     lacks = (let a = c.loop-name.invariant.cause.lacks in let b = c.put_name.ensures.cause.lacks in omega arith);
     rose = tt;
+    told = (c.in_ok-put_name.ensures.cause.told.0 ∙ c.loop-name.invariant.cause.told.0, c.in_ok-put_name.ensures.cause.told.1 ∙ c.loop-name.invariant.cause.told.1);
   };
 }
