@@ -1,3 +1,4 @@
+pub mod Fills
 pub mod Given
+pub mod Listed
 pub mod Shown
-pub mod Shared

@@ -5,15 +5,15 @@
 mod changes;
 mod disk;
 mod error;
+mod kept;
 mod looks;
 mod numbers;
 mod out_sink;
+mod passed;
 mod place;
 mod real_fs;
 mod streams;
 mod tally;
-#[cfg(test)]
-mod tests;
 
 pub use out_sink::OutSink;
 pub use real_fs::RealFs;

@@ -1,42 +1,45 @@
 // Standard output.
-ghost use Rattle.std.specs.Prelude.{◌≡◌, [], false};
+ghost use Rattle.std.specs.Prelude.{◌≡◌, [], false, OnOk};
+ghost use Rattle.std.specs.Io.KnownBytes.{Appends};
 ghost use Rattle.fs_real.specs.Counted.{sink_counts_of};
 
 use crate::error::sink_named;
-use crate::streams::write_all;
 use fs_model::{Sink, SinkError};
 use std::io;
 use std::io::Write;
 
-/// Standard output, untold: no contract says what became of the bytes.
+/// A writer as a sink, untold: no contract says what became of the bytes. The program hands it standard output, as
+/// `std::io::writer` makes it.
 #[derive(Drop)]
-pub struct OutSink<'a, R: Print> {
-    rt: &'a R,
+pub struct OutSink<W> {
+    out: W,
     faults: u64,
     lacks: u64,
 }
 
 // Writes all of the bytes, and leaves none in a buffer.
-fn write_out(rt: &impl Print, bytes: &[u8]) -> io::Result<()> {
-    let mut out = io::writer(rt);
-    write_all(&mut out, bytes)?;
+fn write_out<W: Write>(out: &mut W, bytes: &[u8]) -> io::Result<()>
+    ensures { OnOk result (Appends (W.contents out.old) (W.contents out.new) bytes.now) }
+{
+    out.write_all(bytes)?;
     out.flush()
 }
 
-impl<'a, R: Print> OutSink<'a, R> {
+impl<W: Write> OutSink<W> {
     /// Only keeps what it is given: takes no memory and writes nothing.
-    pub fn new(rt: &'a R) -> OutSink<'a, R>
-        ensures { sink_counts_of result.faults result.lacks ≡ record { faults = 0; lacks = 0 } }
+    pub fn new(out: W) -> OutSink<W>
+        ensures counts { sink_counts_of result.faults result.lacks ≡ record { faults = 0; lacks = 0 } }
+        ensures out { result.out ≡ out }
     {
         OutSink {
-            rt,
+            out,
             faults: 0,
             lacks: 0,
         }
     }
 }
 
-impl<'a, R: Print> Sink for OutSink<'a, R> {
+impl<W: Write> Sink for OutSink<W> {
     ghost told = { λ _. false };
 
     ghost written = { λ _. [] };
@@ -44,7 +47,7 @@ impl<'a, R: Print> Sink for OutSink<'a, R> {
     ghost counts = { λ s. sink_counts_of s.faults s.lacks };
 
     fn put(&mut self, bytes: &[u8]) -> Result<(), SinkError> {
-        let answer = write_out(self.rt, bytes).map_err(sink_named);
+        let answer = write_out(&mut self.out, bytes).map_err(sink_named);
         match answer {
             Ok(()) => {}
             Err(SinkError::Failed) => self.faults = self.faults.saturating_add(1),

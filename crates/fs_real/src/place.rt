@@ -1,5 +1,5 @@
 // Where a path leads.
-ghost use Rattle.std.specs.Prelude.{◌≡◌, ◌++◌, ◌∷◌, [], ◌↔◌, IsTrue, IfOk, OnOk, string_bytes, take};
+ghost use Rattle.std.specs.Prelude.{◌≡◌, ◌++◌, ◌∷◌, [], ◌↔◌, IsTrue, IfOk, OnOk, string_bytes};
 ghost use Rattle.fs_model.specs.Names.{Path as Names, parent, same_path, slash};
 ghost use Rattle.fs_model.specs.PathText.{joined, text_of};
 ghost use Rattle.fs_model.specs.Calls.{crosses, is_root};
@@ -12,19 +12,28 @@ use std::alloc::{AllocError, Global};
 pub struct Place {
     // nothing for the root
     text: String,
-    /// The device of the directory that it stands in, where that was looked at.
+    /// The device of the directory that it stands in, where that was asked for.
     pub(crate) device: Option<u64>,
 }
 
+// The length of a path's text in bytes.
+fn text_len(path: &Path) -> usize {
+    let mut len: usize = 0;
+    for name in path.names() {
+        len = len.saturating_add(name.text().len()).saturating_add(1);
+    }
+    len
+}
+
 impl Place {
-    // Takes no memory.
-    pub(crate) fn root(alloc: Global) -> Place
-        ensures { string_bytes result.text ≡ [] }
+    // The root, with room for the way to a path, so that no later step of the way takes memory.
+    pub(crate) fn root(alloc: Global, path: &Path) -> Result<Place, AllocError>
+        ensures { IfOk result (λ place. string_bytes place.text ≡ []) }
     {
-        Place {
-            text: String::new(alloc),
+        Ok(Place {
+            text: String::with_capacity(alloc, text_len(path))?,
             device: None,
-        }
+        })
     }
 
     pub(crate) fn is_root(&self) -> bool
@@ -51,6 +60,13 @@ impl Place {
         }
     }
 
+    // Its text as a value: nothing for the root.
+    pub(crate) fn into_text(self) -> String
+        ensures { string_bytes result ≡ string_bytes self.text }
+    {
+        self.text
+    }
+
     // Nothing can be made where the root is.
     pub(crate) fn not_root(self) -> Result<Place, FsError>
         ensures { IfOk result (λ place. place ≡ self) }
@@ -68,18 +84,6 @@ fn above(path: &Path) -> &[Name]
 {
     let names = path.names();
     &names[..names.len().saturating_sub(1)]
-}
-
-// How many names the ways of two paths begin with in common.
-pub(crate) fn common_way(from: &Path, to: &Path) -> usize
-    ensures { take result (parent from.now) ≡ take result (parent to.now) }
-{
-    let (from, to) = (above(from), above(to));
-    let mut shared = 0;
-    while shared < from.len() && shared < to.len() && from[shared] == to[shared] {
-        shared += 1;
-    }
-    shared
 }
 
 fn is_root(path: &Path) -> bool

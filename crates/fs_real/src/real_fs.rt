@@ -28,7 +28,7 @@ impl<'a, R: Files> RealFs<'a, R> {
         ensures { counts_of result.tally ≡ record { faults = 0; refusals = 0; lacks = 0 } }
     {
         RealFs {
-            disk: Disk { rt, alloc },
+            disk: Disk::new(rt, alloc),
             numbers: Numbers::new(alloc),
             tally: Tally::new(),
         }

@@ -1,6 +1,6 @@
 // How many calls were made, and how often each sort of error was answered.
 ghost use Rattle.std.specs.Prelude.{◌≡◌, Some, false};
-ghost use Rattle.fs_model.specs.Trail.{HasCause, error_of};
+ghost use Rattle.fs_model.specs.Trail.{HasCause, OthersStay, error_of};
 ghost use Rattle.fs_real.specs.Counted.{closed, counts_of};
 
 use fs_model::FsError;
@@ -40,6 +40,7 @@ impl Tally {
     fn count(&mut self, error: FsError)
         ensures counted { self.new ≡ closed self.old (Some error) }
         ensures cause { HasCause false (counts_of self.old) (counts_of self.new) (Some error) }
+        ensures others { OthersStay (counts_of self.old) (counts_of self.new) (Some error) }
     {
         match error {
             FsError::OutOfMemory => {
@@ -57,6 +58,7 @@ impl Tally {
         ensures same { result ≡ answer }
         ensures counted { self.new ≡ closed self.old (error_of answer) }
         ensures cause { HasCause false (counts_of self.old) (counts_of self.new) (error_of result) }
+        ensures others { OthersStay (counts_of self.old) (counts_of self.new) (error_of result) }
     {
         match answer {
             Ok(value) => {

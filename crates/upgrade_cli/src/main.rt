@@ -8,6 +8,7 @@ mod args;
 
 use crate::args::words;
 use fs_real::{OutSink, RealFs};
+use std::io;
 use std::process::ExitCode;
 use upgrade_run::run;
 
@@ -20,7 +21,7 @@ fn main(rt: HostRuntime) -> ExitCode {
         return ExitCode::from(NO_MEMORY);
     };
     let mut fs = RealFs::new(&rt, alloc);
-    let mut out = OutSink::new(&rt);
+    let mut out = OutSink::new(io::writer(&rt));
     let outcome = run(alloc, &words, &mut fs, &mut out);
     ExitCode::from(outcome.code())
 }

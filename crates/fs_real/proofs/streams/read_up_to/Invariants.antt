@@ -1,8 +1,11 @@
-use Rattle.std.proofs.Common.{length, ◌-◌, ◌≤◌}
+use Rattle.std.proofs.Common.{◌≡◌, ◌≤◌, length, take}
+use Rattle.std.specs.Io.KnownBytes.{Consumes}
 use Rattle.fs_real.proofs.streams.read_up_to.Given as goal
 
-abbrev pub invariant-loop-filled : goal.invariant-loop-filled
-invariant-loop-filled g l = l.filled ≤ length l.into
-
-abbrev pub decreases-loop-filled : goal.decreases-loop-filled
-decreases-loop-filled g l = length l.initial.into - l.filled
+-- what was filled is what the file gave
+abbrev pub invariant-loop : goal.invariant-loop
+invariant-loop g l = record {
+  same_room : length l.into ≡ length l.initial.into;
+  within : l.filled ≤ length l.into;
+  given : Consumes (g.F.Read.remaining l.initial.file) (g.F.Read.remaining l.file) (take l.filled l.into);
+}
