@@ -4,7 +4,17 @@ ghost use Rattle.heap_page.specs.Line.{flags_of, pointer_of, tuple};
 ghost use Rattle.heap_page.specs.Page.{items_of, item_at};
 ghost use Rattle.heap_page.specs.Map.{map_byte, map_shift};
 
-use crate::layout::{PAGE_HEADER_SIZE, PAGE_SIZE};
+use crate::layout::{
+    LINE_POINTER_SIZE, LOWER_AT, MAP_BLOCKS_PER_BYTE, MAP_BLOCKS_PER_PAGE, PAGE_HEADER_SIZE,
+    PAGE_SIZE, SIZE_VERSION, SIZE_VERSION_AT, SPECIAL_AT, UPPER_AT,
+};
+
+/// The constants that the definitions cite are the format's numbers.
+pub fn layout_law()
+    ensures sizes { (PAGE_SIZE ≡ 8192) × (PAGE_HEADER_SIZE ≡ 24) × (LINE_POINTER_SIZE ≡ 4) }
+    ensures header { (LOWER_AT ≡ 12) × (UPPER_AT ≡ 14) × (SPECIAL_AT ≡ 16) × (SIZE_VERSION_AT ≡ 18) × (SIZE_VERSION ≡ 8196) }
+    ensures map { (MAP_BLOCKS_PER_BYTE ≡ 4) × (MAP_BLOCKS_PER_PAGE ≡ 32672) }
+{}
 
 /// A law of the definition `pointer_of`: offset, flags and length are all of a line pointer's bits,
 /// from the lowest on.

@@ -17,7 +17,7 @@ mod tests;
 
 pub use crate::error::PageError;
 pub use crate::items::{Item, Items};
-pub use crate::laws::{items_law, map_law, pointer_law};
+pub use crate::laws::{items_law, layout_law, map_law, pointer_law};
 pub use crate::layout::{
     LINE_POINTER_SIZE, LOWER_AT, MAP_BLOCKS_PER_BYTE, MAP_BLOCKS_PER_PAGE, PAGE_HEADER_SIZE,
     PAGE_SIZE, SIZE_VERSION, SIZE_VERSION_AT, SPECIAL_AT, UPPER_AT,

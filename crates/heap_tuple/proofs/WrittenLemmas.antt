@@ -218,34 +218,38 @@ pointer_so area start to within tag same =
 size_bits : (size method : ℕ) → size < 2 ^ 30 → (size + 2 ^ 30 * method) % 2 ^ 30 ≡ size
 size_bits size method h = omega arith
 
+method_bits : (size method : ℕ) → size < 2 ^ 30 → (size + 2 ^ 30 * method) / 2 ^ 30 ≡ method
+method_bits size method h = omega arith
+
 -- a number of four bytes, some bytes behind the place
 number_at : (area before cells tail : List ℕ) (back x : ℕ) → area ≡ before ++ (cells ++ (little_bytes 4 x ++ tail)) → length cells ≡ back → x < 2 ^ 32 → u32_at area (length before + back) ≡ x
 number_at area before cells tail back x same size fits =
     ap (λ (a : List ℕ). u32_at a (length before + back)) (same ∙ sym (append_assoc before cells (little_bytes 4 x ++ tail)))
     ∙ u32_behind (before ++ cells) tail (length before + back) x (omega (arith, length-append before cells)) fits
 
-same_pointer : (area : List ℕ) (start : ℕ) (to : ToastPointer) → u32_at area (start + 2) ≡ to.rawsize → u32_at area (start + 6) % 2 ^ 30 ≡ to.size → u32_at area (start + 10) ≡ to.value → u32_at area (start + 14) ≡ to.relation → pointer_at area start ≡ to
-same_pointer area start to raw size value relation = rw (raw, size, value, relation) refl
+same_pointer : (area : List ℕ) (start : ℕ) (to : ToastPointer) → u32_at area (start + 2) ≡ to.rawsize → u32_at area (start + 6) % 2 ^ 30 ≡ to.size → u32_at area (start + 6) / 2 ^ 30 ≡ to.method → u32_at area (start + 10) ≡ to.value → u32_at area (start + 14) ≡ to.relation → pointer_at area start ≡ to
+same_pointer area start to raw size method value relation = rw (raw, size, method, value, relation) refl
 
-pub written_pointer : (before rest : List ℕ) (align : Align) (to : ToastPointer) (method : ℕ) → to.rawsize < 2 ^ 32 → to.size < 2 ^ 30 → method < 4 → to.value < 2 ^ 32 → to.relation < 2 ^ 32 → field_in (before ++ pointer_bytes to method ++ rest) (varlena align) (length before) ≡ Ok (pointer to, length before + 18)
+pub written_pointer : (before rest : List ℕ) (align : Align) (to : ToastPointer) → to.rawsize < 2 ^ 32 → to.size < 2 ^ 30 → to.method < 4 → to.value < 2 ^ 32 → to.relation < 2 ^ 32 → field_in (before ++ pointer_bytes to ++ rest) (varlena align) (length before) ≡ Ok (pointer to, length before + 18)
 unfolding field_in
-written_pointer before rest align to method raw size two value relation =
+written_pointer before rest align to raw size two value relation =
     let place = length before in
-    let extinfo = to.size + 2 ^ 30 * method in
+    let extinfo = to.size + 2 ^ 30 * to.method in
     let a = little_bytes 4 to.rawsize in
     let b = little_bytes 4 extinfo in
     let c = little_bytes 4 to.value in
     let d = little_bytes 4 to.relation in
-    let area = before ++ pointer_bytes to method ++ rest in
-    let whole : area ≡ before ++ (1 ∷ 18 ∷ (a ++ (b ++ (c ++ (d ++ rest))))) = append_assoc before (pointer_bytes to method) rest in
+    let area = before ++ pointer_bytes to ++ rest in
+    let whole : area ≡ before ++ (1 ∷ 18 ∷ (a ++ (b ++ (c ++ (d ++ rest))))) = append_assoc before (pointer_bytes to) rest in
     let same : pointer_at area place ≡ to = same_pointer area place to
     (number_at area before (1 ∷ 18 ∷ []) (b ++ (c ++ (d ++ rest))) 2 to.rawsize whole refl raw)
-    (ap (λ (n : ℕ). n % 2 ^ 30) (number_at area before (1 ∷ 18 ∷ a) (c ++ (d ++ rest)) 6 extinfo whole refl (omega arith)) ∙ size_bits to.size method size)
+    (ap (λ (n : ℕ). n % 2 ^ 30) (number_at area before (1 ∷ 18 ∷ a) (c ++ (d ++ rest)) 6 extinfo whole refl (omega arith)) ∙ size_bits to.size to.method size)
+    (ap (λ (n : ℕ). n / 2 ^ 30) (number_at area before (1 ∷ 18 ∷ a) (c ++ (d ++ rest)) 6 extinfo whole refl (omega arith)) ∙ method_bits to.size to.method size)
     (number_at area before (1 ∷ 18 ∷ (a ++ b)) (d ++ rest) 10 to.value whole refl value)
     (number_at area before (1 ∷ 18 ∷ (a ++ (b ++ c))) rest 14 to.relation whole refl relation) in
     let first : slice_index area place ≡ 1 = ap (λ (x : List ℕ). slice_index x place) whole ∙ byte_behind before _ place 1 refl in
     let tag : slice_index area (place + 1) ≡ 18 = ap (λ (x : List ℕ). slice_index x (place + 1)) (whole ∙ sym (append_assoc before (1 ∷ []) (18 ∷ (a ++ (b ++ (c ++ (d ++ rest))))))) ∙ byte_behind (before ++ (1 ∷ [])) _ (place + 1) 18 (sym (length-append before (1 ∷ []))) in
-    let within : place + 18 ≤ length area = omega (arith, length-append (before ++ pointer_bytes to method) rest, length-append before (pointer_bytes to method)) in
+    let within : place + 18 ≤ length area = omega (arith, length-append (before ++ pointer_bytes to) rest, length-append before (pointer_bytes to)) in
     ap (varlena_field area) (starts_at_once area align place 1 first refl)
     ∙ reads_pointer area place (omega arith) first
     ∙ pointer_so area place to within tag same

@@ -57,6 +57,7 @@ pointer_at area start =
     record {
       rawsize = u32_at area (start + 2);
       size = u32_at area (start + 6) % 2 ^ 30;
+      method = u32_at area (start + 6) / 2 ^ 30;
       value = u32_at area (start + 10);
       relation = u32_at area (start + 14);
     }

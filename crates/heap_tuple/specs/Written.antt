@@ -19,11 +19,11 @@ short_bytes value = (2 * (length value + 1) + 1) ∷ value
 abbrev pub long_bytes : ℕ → List ℕ → List ℕ
 long_bytes kind value = little_bytes 4 (4 * (length value + 4) + kind) ++ value
 
--- a pointer to a value stored elsewhere: its header, and four numbers, of which one also has the
--- compression method
-abbrev pub pointer_bytes : ToastPointer → ℕ → List ℕ
-pointer_bytes to method =
-    1 ∷ 18 ∷ (little_bytes 4 to.rawsize ++ (little_bytes 4 (to.size + 2 ^ 30 * method) ++ (little_bytes 4 to.value ++ little_bytes 4 to.relation)))
+-- a pointer to a value stored elsewhere: its header, and four numbers, of which the second has the
+-- compression method in its two high bits
+abbrev pub pointer_bytes : ToastPointer → List ℕ
+pointer_bytes to =
+    1 ∷ 18 ∷ (little_bytes 4 to.rawsize ++ (little_bytes 4 (to.size + 2 ^ 30 * to.method) ++ (little_bytes 4 to.value ++ little_bytes 4 to.relation)))
 
 -- the shape of a column of so many bytes, and of one whose fields say their length
 abbrev pub fixed : ℕ → Align → Shape

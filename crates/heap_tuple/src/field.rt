@@ -5,6 +5,9 @@ pub struct ToastPointer {
     pub rawsize: u32,
     /// Bytes of the value as its chunks hold them.
     pub size: u32,
+    /// The compression method of the chunks' bytes: 0 is pglz, 1 lz4. It has two bits, and says nothing where
+    /// the value isn't compressed.
+    pub method: u8,
     /// The value's number among the chunks, `chunk_id`.
     pub value: u32,
     /// The OID of the TOAST table that has the chunks.

@@ -8,6 +8,23 @@ ghost use Rattle.heap_tuple.specs.Written.{fixed, long_bytes, padding, pointer_b
 ghost use Rattle.heap_tuple.specs.Extent.{field_start, LiesIn};
 ghost use Rattle.heap_tuple.specs.Cursor.{fields_of};
 
+use crate::layout::{
+    ATTRIBUTES_MASK, CID_AT, COMPRESSED_HEADER_SIZE, CTID_BLOCK_AT, CTID_LINE_AT, EXCL_LOCK,
+    EXTERNAL_METHOD_SHIFT, EXTERNAL_SIZE_MASK, HASEXTERNAL, HASNULL, HASVARWIDTH, HEADER_SIZE,
+    HOFF_AT, INFOMASK_AT, INFOMASK2_AT, KEYSHR_LOCK, LOCK_ONLY, LONG_HEADER_SIZE, POINTER_HEADER,
+    POINTER_SIZE, POINTER_TAG, XMAX_AT, XMAX_COMMITTED, XMAX_INVALID, XMAX_IS_MULTI, XMIN_AT,
+    XMIN_COMMITTED, XMIN_INVALID,
+};
+
+/// The constants that the definitions cite are the format's numbers.
+pub fn layout_law()
+    ensures header { (HEADER_SIZE ≡ 23) × (XMIN_AT ≡ 0) × (XMAX_AT ≡ 4) × (CID_AT ≡ 8) × (CTID_BLOCK_AT ≡ 12) × (CTID_LINE_AT ≡ 16) × (INFOMASK2_AT ≡ 18) × (INFOMASK_AT ≡ 20) × (HOFF_AT ≡ 22) × (ATTRIBUTES_MASK ≡ 2047) }
+    ensures fields { (HASNULL ≡ 1) × (HASVARWIDTH ≡ 2) × (HASEXTERNAL ≡ 4) }
+    ensures locks { (KEYSHR_LOCK ≡ 16) × (EXCL_LOCK ≡ 64) × (LOCK_ONLY ≡ 128) }
+    ensures hints { (XMIN_COMMITTED ≡ 256) × (XMIN_INVALID ≡ 512) × (XMAX_COMMITTED ≡ 1024) × (XMAX_INVALID ≡ 2048) × (XMAX_IS_MULTI ≡ 4096) }
+    ensures varlena { (POINTER_HEADER ≡ 1) × (POINTER_TAG ≡ 18) × (POINTER_SIZE ≡ 18) × (LONG_HEADER_SIZE ≡ 4) × (COMPRESSED_HEADER_SIZE ≡ 8) × (EXTERNAL_SIZE_MASK ≡ 1073741823) × (EXTERNAL_METHOD_SHIFT ≡ 30) }
+{}
+
 /// A law of the definition `raised`: it is the least multiple of the alignment's bytes that isn't
 /// below the place.
 pub fn alignment_law()
@@ -55,9 +72,9 @@ pub fn written_law()
         field_in (before ++ padding (length before) align ++ long_bytes 2 value ++ rest)
         (varlena align) (length before)
         ≡ Ok (compressed value, raised (length before) align + (length value + 4)) }
-    ensures pointer { (before rest : List ℕ) (align : Align) (to : ToastPointer) (method : ℕ) →
-        to.rawsize < 2 ^ 32 → to.size < 2 ^ 30 → method < 4 →
+    ensures pointer { (before rest : List ℕ) (align : Align) (to : ToastPointer) →
+        to.rawsize < 2 ^ 32 → to.size < 2 ^ 30 → to.method < 4 →
         to.value < 2 ^ 32 → to.relation < 2 ^ 32 →
-        field_in (before ++ pointer_bytes to method ++ rest) (varlena align) (length before)
+        field_in (before ++ pointer_bytes to ++ rest) (varlena align) (length before)
         ≡ Ok (pointer to, length before + 18) }
 {}

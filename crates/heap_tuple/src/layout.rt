@@ -82,3 +82,6 @@ pub const COMPRESSED_HEADER_SIZE: usize = 8;
 /// The low bits of `va_extinfo` that are the stored size, `VARLENA_EXTSIZE_MASK`; the upper two are
 /// the compression method.
 pub const EXTERNAL_SIZE_MASK: u32 = 0x3FFF_FFFF;
+
+/// The bits below the compression method in `va_extinfo`, `VARLENA_EXTSIZE_BITS`.
+pub const EXTERNAL_METHOD_SHIFT: u32 = 30;

@@ -6,8 +6,8 @@ ghost use Rattle.heap_tuple.specs.Stored.{long_value, stored_value};
 use crate::error::TupleError;
 use crate::field::{Field, ToastPointer};
 use crate::layout::{
-    COMPRESSED_HEADER_SIZE, EXTERNAL_SIZE_MASK, LONG_HEADER_SIZE, POINTER_HEADER, POINTER_SIZE,
-    POINTER_TAG,
+    COMPRESSED_HEADER_SIZE, EXTERNAL_METHOD_SHIFT, EXTERNAL_SIZE_MASK, LONG_HEADER_SIZE,
+    POINTER_HEADER, POINTER_SIZE, POINTER_TAG,
 };
 use crate::numbers::u32_at;
 use crate::shape::{Align, Shape};
@@ -122,9 +122,11 @@ fn pointer_field(area: &[u8], start: usize) -> Result<Stored<'_>, TupleError>
     if end > area.len() {
         return Err(TupleError::Short);
     }
+    let extinfo = u32_at(area, start + 6);
     let field = Field::Pointer(ToastPointer {
         rawsize: u32_at(area, start + 2),
-        size: u32_at(area, start + 6) & EXTERNAL_SIZE_MASK,
+        size: extinfo & EXTERNAL_SIZE_MASK,
+        method: (extinfo >> EXTERNAL_METHOD_SHIFT) as u8,
         value: u32_at(area, start + 10),
         relation: u32_at(area, start + 14),
     });

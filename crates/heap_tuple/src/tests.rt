@@ -152,6 +152,7 @@ fn fields_of_each_kind(rt: HostRuntime) -> Result<(), Fail> {
     let pointer = ToastPointer {
         rawsize: 4004,
         size: 4000,
+        method: 1,
         value: 5,
         relation: 16387,
     };
