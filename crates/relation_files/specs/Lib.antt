@@ -1,0 +1,4 @@
+pub mod Places
+pub mod Carried
+pub mod Relations
+pub mod Sites
