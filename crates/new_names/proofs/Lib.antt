@@ -1,0 +1,4 @@
+pub mod Making
+pub mod Runs
+pub mod Looking
+pub mod Rooms
