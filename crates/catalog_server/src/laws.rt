@@ -1,0 +1,40 @@
+// The laws of a server's reading and of its replays. Nothing is computed: each contract is a fact about definitions.
+ghost use Rattle.std.specs.Prelude.{◌≡◌, ℕ, List, Result};
+ghost use Rattle.fs_model.specs.Names.{Path};
+ghost use Rattle.fs_model.specs.State.{FsState};
+ghost use Rattle.fs_model.specs.Calls.{Call};
+ghost use Rattle.fs_model.specs.Trail.{Trail, Goes, Since};
+ghost use Rattle.crash_safety.specs.Frame.{IsInside};
+ghost use Rattle.crash_safety.specs.Calling.{MakesWithin};
+ghost use Rattle.crash_safety.specs.Upgrade.{Upgrade, IsReady};
+ghost use Rattle.crash_safety.specs.Sound.{Stage, Moving, Sound};
+ghost use Rattle.control_file.specs.declared.releases.Release.{Release};
+ghost use Rattle.catalog.specs.Cluster.{Cluster};
+ghost use Rattle.dump_grammar.specs.declared.error.TextError.{TextError};
+ghost use Rattle.new_names.specs.Frame.{MakesListed};
+ghost use Rattle.catalog_server.specs.Profile.{profile_of};
+ghost use Rattle.catalog_server.specs.SameProfile.{LeavesProfile};
+ghost use Rattle.catalog_server.specs.ReplayNames.{listed_names};
+ghost use Rattle.catalog_server.specs.ServerFrame.{ServerFrame, ReplayCalls};
+ghost use Rattle.catalog_server.specs.Within.{replay_tops};
+
+/// What leaves the names, nodes and bytes of a cluster's profile, the mark `done` apart, leaves what every server reads.
+pub fn reading_rests_on_profile()
+    ensures { (root : Path) (s t : FsState) → LeavesProfile root s t → profile_of t root ≡ profile_of s root }
+{}
+
+/// Every state of a replay has the frame, though it may have been cut short by a failure at any call.
+pub fn replay_has_frame()
+    ensures { (root : Path) (release : Release) (reading : Result Cluster TextError) (text : List ℕ) (a b : Trail) → Goes (ReplayCalls root release reading text a.present) a b → Since (ServerFrame root release reading text a.present) a b }
+{}
+
+/// A replay keeps within three directories of its cluster and each tablespace's own, and gives no file a further name.
+pub fn replay_stays_within()
+    ensures { (root : Path) (release : Release) (before after : Cluster) (start s : FsState) (call : Call) → MakesListed (listed_names root release before after) start s call → MakesWithin (replay_tops root release after) start s call }
+{}
+
+/// Where these are new places of an upgrade, a replay keeps its crash invariant in every state, at each stage but while
+/// the control file's rename waits.
+pub fn replay_keeps_sound()
+    ensures { (u : Upgrade) → IsReady u → (stage : Stage) → (stage ≡ Moving → ⊥) → (root : Path) (release : Release) (before after : Cluster) → ((path : Path) → IsInside (replay_tops root release after) path → IsInside u.new_tops path) → (a b : Trail) → Sound u stage a.present → Goes (MakesListed (listed_names root release before after) a.present) a b → Since (Sound u stage) a b }
+{}

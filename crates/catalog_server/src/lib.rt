@@ -1,0 +1,15 @@
+//! What the upgrade takes a catalog server to be: a server reads the catalog of a cluster, dumps it as a text, and replays
+//! such a text. The layers above rest on the laws of the trait `Server`.
+#![tactic(auto)]
+
+mod error;
+mod laws;
+mod relation;
+mod server;
+
+pub use error::ServerError;
+pub use laws::{
+    reading_rests_on_profile, replay_has_frame, replay_keeps_sound, replay_stays_within,
+};
+pub use relation::Relation;
+pub use server::Server;
