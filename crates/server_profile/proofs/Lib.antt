@@ -1,0 +1,9 @@
+pub mod ReadTexts
+pub mod Listing
+pub mod Texts
+pub mod Replays
+pub mod Counting
+pub mod Numbers
+pub mod Adding
+pub mod Sets
+pub mod Directories
