@@ -1,34 +1,11 @@
 // A catalog with every kind of object.
+use crate::ends::{started, text_of};
 use crate::sample::{CANONICAL, FREE};
-use crate::texts::{prints, started, text_of};
 use catalog::{BaseType, Catalog, Column, ColumnKind, Database, Index, Table, Tablespace, Toast};
-use dump_text::{load, print, replay};
+use dump_text::{TextError, load, print, replay};
 use fs_model::Bytes;
 use heap_tuple::Align;
 use std::alloc::Global;
-use std::test::Fail;
-
-#[test]
-fn canonical_text_is_loaded_and_printed(rt: HostRuntime) -> Result<(), Fail> {
-    let alloc = rt.alloc();
-    let catalog = load(alloc, CANONICAL)?;
-    let text = print(alloc, &catalog)?;
-    assert!(rt; text.as_slice() == CANONICAL);
-    assert!(rt; load(alloc, &text)?.same(&catalog));
-    Ok(())
-}
-
-#[test]
-fn free_text_is_loaded_as_the_same(rt: HostRuntime) -> Result<(), Fail> {
-    let alloc = rt.alloc();
-    let catalog = load(alloc, FREE)?;
-    assert!(rt; catalog.same(&load(alloc, CANONICAL)?));
-    assert!(rt; prints(alloc, &catalog, CANONICAL)?);
-    let mut replayed = started(alloc)?;
-    replay(alloc, &mut replayed, FREE)?;
-    assert!(rt; catalog.same(&replayed));
-    Ok(())
-}
 
 // ---- what the catalog has
 
@@ -49,7 +26,11 @@ fn has_roles(catalog: &Catalog) -> bool {
         && is_role(catalog, 4_294_967_295, b"Zo\xc3\xab\xff")
 }
 
-fn is_at(alloc: Global, tablespace: Option<&Tablespace>, location: &str) -> Result<bool, Fail> {
+fn has_cluster(catalog: &Catalog) -> bool {
+    has_counts(catalog) && has_roles(catalog) && has_databases(catalog)
+}
+
+fn is_at(tablespace: Option<&Tablespace>, location: &str) -> Result<bool, TextError> {
     match tablespace {
         None => Ok(false),
         Some(found) => Ok(found.location.text()?.as_bytes() == location.as_bytes()),
@@ -71,20 +52,22 @@ fn has_databases(catalog: &Catalog) -> bool {
         && is_database(catalog, 16402, b"empty", 10, true)
 }
 
-#[test]
-fn objects_of_the_cluster(rt: HostRuntime) -> Result<(), Fail> {
-    let alloc = rt.alloc();
-    let catalog = load(alloc, CANONICAL)?;
-    assert!(rt; has_counts(&catalog) && has_roles(&catalog) && has_databases(&catalog));
-    assert!(rt; is_at(alloc, catalog.tablespace(16389), "/a/b")?);
-    assert!(rt; is_at(alloc, catalog.tablespace(16390), "/srv/it\'s été")?);
-    let fast = text_of(alloc, b"Slow Disk")?;
-    assert!(rt;
-        catalog
-            .tablespace_named(&fast)
-            .is_some_and(|space| space.owner == 16386)
-    );
-    Ok(())
+fn is_owned(tablespace: Option<&Tablespace>, owner: u32) -> bool {
+    match tablespace {
+        Some(found) => found.owner == owner,
+        None => false,
+    }
+}
+
+fn has_tablespaces(alloc: Global, catalog: &Catalog) -> Result<bool, TextError> {
+    Ok(
+        is_at(catalog.tablespace(16389), "/a/b")?
+            && is_at(catalog.tablespace(16390), "/srv/it\'s été")?
+            && is_owned(
+                catalog.tablespace_named(&text_of(alloc, b"Slow Disk")?),
+                16386,
+            ),
+    )
 }
 
 // ---- what the database `app` has
@@ -251,13 +234,6 @@ fn has_objects(database: Option<&Database>) -> bool {
     }
 }
 
-#[test]
-fn objects_of_a_database(rt: HostRuntime) -> Result<(), Fail> {
-    let catalog = load(rt.alloc(), FREE)?;
-    assert!(rt; has_objects(catalog.database(16400)));
-    Ok(())
-}
-
 // The types of a table that has a column of each, in order.
 static TYPES: [BaseType; 26] = [
     BaseType::Bool,
@@ -305,9 +281,45 @@ fn has_all_types(catalog: &Catalog) -> bool {
     }
 }
 
-#[test]
-fn every_type(rt: HostRuntime) -> Result<(), Fail> {
-    let catalog = load(rt.alloc(), CANONICAL)?;
-    assert!(rt; has_all_types(&catalog));
-    Ok(())
+// ---- the sample
+
+fn sample(alloc: Global) -> Result<Catalog, TextError> {
+    load(alloc, CANONICAL)
+}
+
+fn free(alloc: Global) -> Result<Catalog, TextError> {
+    load(alloc, FREE)
+}
+
+fn prints(alloc: Global, catalog: &Catalog) -> Result<bool, TextError> {
+    Ok(print(alloc, catalog)?.as_slice() == CANONICAL)
+}
+
+fn catches_up(alloc: Global, catalog: &mut Catalog, wanted: &Catalog) -> Result<bool, TextError> {
+    let before = catalog.same(wanted);
+    replay(alloc, catalog, FREE)?;
+    Ok(!before && catalog.same(wanted))
+}
+
+fn has_it(alloc: Global, what: &[u8]) -> Result<bool, TextError> {
+    match what {
+        b"the canonical text" => prints(alloc, &sample(alloc)?),
+        b"the canonical text of the free text" => prints(alloc, &free(alloc)?),
+        b"the same from the free text" => Ok(sample(alloc)?.same(&free(alloc)?)),
+        b"the same replayed" => catches_up(alloc, &mut started(alloc)?, &sample(alloc)?),
+        b"objects of the cluster" => Ok(has_cluster(&sample(alloc)?)),
+        b"tablespaces" => has_tablespaces(alloc, &sample(alloc)?),
+        b"objects of a database" => Ok(has_objects(free(alloc)?.database(16400))),
+        b"every type" => Ok(has_all_types(&sample(alloc)?)),
+        _ => Err(TextError::out_of_memory()),
+    }
+}
+
+/// Whether the catalog of the sample has what the text names.
+pub(crate) fn has(alloc: Global, what: &[u8]) -> Result<&'static str, TextError> {
+    if has_it(alloc, what)? {
+        Ok("yes")
+    } else {
+        Ok("no")
+    }
 }

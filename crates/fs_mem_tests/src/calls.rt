@@ -1,151 +1,108 @@
-// What the calls answer, one after another. The helpers know any file system, so that they are cheap to prove.
-use fs_mem::{Entry, Failing, ImageError, MemFs, MemSink, Pick, Tree};
-use fs_model::{Bytes, Fs, FsError, Path, Sink, SinkError};
-use fs_untold::Untold;
+// Calls on a file system as values, so that a test is a table of them, and a loop.
+use fs_model::{Fs, FsError, Name, Path, PathError};
 use std::alloc::Global;
-use std::test::Fail;
 
-fn at(alloc: Global, path: &str) -> Result<Path, Fail> {
-    Ok(Path::parse(alloc, path)?)
+/// A call, by the texts of its paths. One that reads has what it is to give.
+pub(crate) enum Call {
+    Create(&'static str),
+    Write(&'static str, u32, &'static [u8]),
+    MakeSymlink(&'static str, &'static str),
+    Link(&'static str, &'static str),
+    Rename(&'static str, &'static str),
+    Unlink(&'static str),
+    RemoveDir(&'static str),
+    SyncFile(&'static str),
+    SyncDir(&'static str),
+    /// Reads so many bytes from a place on.
+    Read(&'static str, u32, &'static [u8]),
+    /// The inode's number.
+    Stat(&'static str, u64),
+    List(&'static str, &'static [&'static str]),
+    ReadLink(&'static str, &'static str),
 }
 
-// A directory, and a file `/d/a` of inode 7 with the bytes `hello`.
-fn small(alloc: Global) -> Result<Tree, Fail> {
-    let bytes = Bytes::new(b"hello".to_vec(alloc)?);
-    Ok(Tree::new(vec![in alloc;
-        (Path::parse(alloc, "/d")?, Entry::Dir { device: 3 }),
-        (Path::parse(alloc, "/d/a")?, Entry::File { inode: 7, bytes }),
-    ]?))
+/// A call, and the error that it answers, if it does.
+pub(crate) type Step = (Call, Option<FsError>);
+
+fn at(alloc: Global, text: &str) -> Result<Path, FsError> {
+    match Path::parse(alloc, text) {
+        Ok(path) => Ok(path),
+        Err(PathError::Bad | PathError::OutOfMemory) => Err(FsError::OutOfMemory),
+    }
 }
 
-fn opened(alloc: Global, failing: Vec<Failing>) -> Result<MemFs, Fail> {
-    Ok(MemFs::new(alloc, small(alloc)?, failing)?)
+// The answer of a reading call that gave what it was to give, or did not: no step expects the second.
+fn given(is_given: bool) -> Result<(), FsError> {
+    if is_given {
+        Ok(())
+    } else {
+        Err(FsError::OutOfMemory)
+    }
 }
 
-fn changes<F: Fs>(alloc: Global, fs: &mut F) -> Result<[Result<(), FsError>; 7], Fail> {
-    let dir = at(alloc, "/d")?;
-    let a = at(alloc, "/d/a")?;
-    let b = at(alloc, "/d/b")?;
-    Ok([
-        fs.create(&b),
-        fs.write_at(&b, 2, b"x"),
-        fs.sync_file(&b),
-        fs.remove_dir(&dir),
-        fs.unlink(&b),
-        fs.link(&a, &b),
-        fs.sync_dir(&dir),
-    ])
+fn write<F: Fs>(fs: &mut F, file: &Path, from: u32, bytes: &[u8]) -> Result<(), FsError> {
+    if bytes.len() > 100 {
+        return Err(FsError::OutOfMemory);
+    }
+    fs.write_at(file, u64::from(from), bytes)
 }
 
-static CHANGED: [Result<(), FsError>; 7] = [
-    Ok(()),
-    Ok(()),
-    Ok(()),
-    Err(FsError::NotEmpty),
-    Ok(()),
-    Ok(()),
-    Ok(()),
-];
-
-#[test]
-fn changing_calls(rt: HostRuntime) -> Result<(), Fail> {
-    let alloc = rt.alloc();
-    let mut fs = opened(alloc, Vec::new(alloc))?;
-    assert!(rt; changes(alloc, &mut fs)? == CHANGED);
-    assert!(rt; fs.moment() == 7);
-    Ok(())
+fn read<F: Fs>(fs: &mut F, file: &Path, from: u32, wanted: &[u8]) -> Result<(), FsError> {
+    let mut bytes = [0u8; 100];
+    let count = fs.read_at(file, u64::from(from), &mut bytes)?;
+    given(bytes.get(..count) == Some(wanted))
 }
 
-// Whether the file, its directory and a symbolic link to it are read as they are.
-fn reads<F: Fs>(alloc: Global, fs: &mut F) -> Result<bool, Fail> {
-    let a = at(alloc, "/d/a")?;
-    let link = at(alloc, "/s")?;
-    fs.make_symlink(&link, &a)?;
-    let mut buffer = [0u8; 8];
-    let count = fs.read_at(&a, 1, &mut buffer)?;
-    let inode = fs.stat(&a)?.identity.inode;
-    let names = fs.list(alloc, &at(alloc, "/d")?)?.len();
-    Ok(count == 4 && inode == 7 && names == 1 && fs.read_link(alloc, &link)? == a)
+fn are_names(names: &[Name], wanted: &[&str]) -> bool {
+    names.len() == wanted.len()
+        && names
+            .iter()
+            .zip(wanted)
+            .all(|(name, wanted)| name.text() == *wanted)
 }
 
-#[test]
-fn reading_calls(rt: HostRuntime) -> Result<(), Fail> {
-    let alloc = rt.alloc();
-    let mut fs = opened(alloc, Vec::new(alloc))?;
-    assert!(rt; reads(alloc, &mut fs)?);
-    Ok(())
+fn list<F: Fs>(fs: &mut F, alloc: Global, dir: &Path, wanted: &[&str]) -> Result<(), FsError> {
+    given(are_names(&fs.list(alloc, dir)?, wanted))
 }
 
-fn renames<F: Fs>(alloc: Global, fs: &mut F) -> Result<[Result<(), FsError>; 3], Fail> {
-    let a = at(alloc, "/d/a")?;
-    let b = at(alloc, "/d/b")?;
-    Ok([fs.rename(&a, &b), fs.rename(&a, &b), fs.rename(&a, &b)])
+fn read_link<F: Fs>(fs: &mut F, alloc: Global, link: &Path, wanted: &Path) -> Result<(), FsError> {
+    given(fs.read_link(alloc, link)? == *wanted)
 }
 
-static RENAMED: [Result<(), FsError>; 3] = [
-    Err(FsError::Failed),
-    Err(FsError::Failed),
-    Err(FsError::NotFound),
-];
-
-// The first fails without its effect, the second with it.
-#[test]
-fn failing_calls(rt: HostRuntime) -> Result<(), Fail> {
-    let alloc = rt.alloc();
-    let without = Failing {
-        call: 0,
-        effect: false,
-    };
-    let with = Failing {
-        call: 1,
-        effect: true,
-    };
-    let mut fs = opened(alloc, vec![in alloc; without, with]?)?;
-    assert!(rt; renames(alloc, &mut fs)? == RENAMED);
-    Ok(())
+fn changed<F: Fs>(fs: &mut F, alloc: Global, call: &Call) -> Result<(), FsError> {
+    match call {
+        Call::Create(file) => fs.create(&at(alloc, file)?),
+        Call::Write(file, from, bytes) => write(fs, &at(alloc, file)?, *from, bytes),
+        Call::MakeSymlink(link, target) => fs.make_symlink(&at(alloc, link)?, &at(alloc, target)?),
+        Call::Link(from, to) => fs.link(&at(alloc, from)?, &at(alloc, to)?),
+        Call::Rename(from, to) => fs.rename(&at(alloc, from)?, &at(alloc, to)?),
+        Call::Unlink(file) => fs.unlink(&at(alloc, file)?),
+        Call::RemoveDir(dir) => fs.remove_dir(&at(alloc, dir)?),
+        Call::SyncFile(file) => fs.sync_file(&at(alloc, file)?),
+        Call::SyncDir(dir) => fs.sync_dir(&at(alloc, dir)?),
+        _ => Err(FsError::OutOfMemory),
+    }
 }
 
-// Whether the name stands in an image of the moment that has these changes.
-fn image_has(alloc: Global, fs: &MemFs, changed: bool, name: &str) -> Result<bool, Fail> {
-    let pick = Pick::new(vec![in alloc; changed]?, Vec::new(alloc));
-    let mut left = fs.image(alloc, 1, &pick)?;
-    Ok(left.stat(&at(alloc, name)?).is_ok())
+/// What the call answers.
+pub(crate) fn called<F: Fs>(fs: &mut F, alloc: Global, call: &Call) -> Result<(), FsError> {
+    match call {
+        Call::Read(file, from, bytes) => read(fs, &at(alloc, file)?, *from, bytes),
+        Call::Stat(file, inode) => given(fs.stat(&at(alloc, file)?)?.identity.inode == *inode),
+        Call::List(dir, names) => list(fs, alloc, &at(alloc, dir)?, names),
+        Call::ReadLink(link, target) => {
+            read_link(fs, alloc, &at(alloc, link)?, &at(alloc, target)?)
+        }
+        _ => changed(fs, alloc, call),
+    }
 }
 
-#[test]
-fn images(rt: HostRuntime) -> Result<(), Fail> {
-    let alloc = rt.alloc();
-    let mut fs = opened(alloc, Vec::new(alloc))?;
-    fs.rename(&at(alloc, "/d/a")?, &at(alloc, "/d/b")?)?;
-    assert!(rt; image_has(alloc, &fs, false, "/d/a")?);
-    assert!(rt; image_has(alloc, &fs, true, "/d/b")?);
-    let pick = Pick::new(Vec::new(alloc), Vec::new(alloc));
-    assert!(rt; fs.image(alloc, 2, &pick).err() == Some(ImageError::NoMoment));
-    Ok(())
-}
-
-fn puts<K: Sink>(sink: &mut K) -> [Result<(), SinkError>; 3] {
-    [sink.put(b"one"), sink.put(b"two"), sink.put(b"three")]
-}
-
-static PUT: [Result<(), SinkError>; 3] = [Ok(()), Err(SinkError::Failed), Ok(())];
-
-#[test]
-fn sinks(rt: HostRuntime) -> Result<(), Fail> {
-    let alloc = rt.alloc();
-    let mut sink = MemSink::new(alloc, vec![in alloc; 1]?);
-    assert!(rt; puts(&mut sink) == PUT);
-    assert!(rt; sink.bytes() == b"onethree".as_slice());
-    Ok(())
-}
-
-// The second call finds nothing.
-#[test]
-fn untold_calls(rt: HostRuntime) -> Result<(), Fail> {
-    let alloc = rt.alloc();
-    let mut fs = Untold::new(opened(alloc, Vec::new(alloc))?, 1);
-    let b = at(alloc, "/b")?;
-    assert!(rt; fs.create(&b) == Ok(()));
-    assert!(rt; fs.create(&b) == Err(FsError::NotFound));
-    Ok(())
+/// How many of the steps, called in turn, answer as they should before the first that does not.
+pub(crate) fn answered<F: Fs>(fs: &mut F, alloc: Global, steps: &[Step]) -> usize {
+    for (place, (call, error)) in steps.iter().enumerate() {
+        if called(fs, alloc, call).err() != *error {
+            return place;
+        }
+    }
+    steps.len()
 }

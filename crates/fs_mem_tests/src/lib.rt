@@ -1,7 +1,10 @@
-//! Tests of the files in memory. They stand in a crate of their own, since a crate with tests is proved twice.
+//! Tests of the file systems in memory, and of reading and making whole files over them. They stand in a crate of their own,
+//! since a crate with tests is proved twice.
 #![tactic(auto)]
 
 #[cfg(test)]
 mod calls;
+#[cfg(test)]
+mod tests;
 #[cfg(test)]
 mod trees;

@@ -1,38 +1,48 @@
-// Trees that are none, with the place of the entry.
-use fs_mem::{Entry, MemFs, Tree, TreeError};
-use fs_model::{Bytes, Path};
-use std::alloc::Global;
-use std::test::Fail;
+// Trees as values, and the file systems that open with them.
+use fs_mem::{Entry, Failing, MemFs, Tree, TreeError};
+use fs_model::{Bytes, Path, PathError};
+use std::alloc::{AllocError, Global};
 
-fn fault(alloc: Global, entries: Vec<(Path, Entry)>) -> Option<TreeError> {
-    MemFs::new(alloc, Tree::new(entries), Vec::new(alloc)).err()
+/// What stands at a path: a directory of a device, or a file of an inode with its bytes.
+pub(crate) enum Standing {
+    Dir(&'static str, u64),
+    File(&'static str, u64, &'static [u8]),
 }
 
-#[test]
-fn directories_that_do_not_stand(rt: HostRuntime) -> Result<(), Fail> {
-    let alloc = rt.alloc();
-    let orphan = vec![in alloc; (Path::parse(alloc, "/a/b")?, Entry::Dir { device: 0 })]?;
-    assert!(rt; fault(alloc, orphan) == Some(TreeError::NoParent(0)));
-    Ok(())
+fn file(alloc: Global, inode: u64, bytes: &[u8]) -> Result<Entry, AllocError> {
+    Ok(Entry::File {
+        inode,
+        bytes: Bytes::new(bytes.to_vec(alloc)?),
+    })
 }
 
-#[test]
-fn the_root_stands_already(rt: HostRuntime) -> Result<(), Fail> {
-    let alloc = rt.alloc();
-    let root = vec![in alloc; (Path::root(alloc), Entry::Dir { device: 0 })]?;
-    assert!(rt; fault(alloc, root) == Some(TreeError::Twice(0)));
-    Ok(())
+fn entry(alloc: Global, standing: &Standing) -> Result<(Path, Entry), PathError> {
+    match standing {
+        Standing::Dir(path, device) => {
+            Ok((Path::parse(alloc, path)?, Entry::Dir { device: *device }))
+        }
+        Standing::File(path, inode, bytes) => {
+            Ok((Path::parse(alloc, path)?, file(alloc, *inode, bytes)?))
+        }
+    }
 }
 
-fn file(alloc: Global, path: &str, bytes: &[u8]) -> Result<(Path, Entry), Fail> {
-    let bytes = Bytes::new(bytes.to_vec(alloc)?);
-    Ok((Path::parse(alloc, path)?, Entry::File { inode: 1, bytes }))
+fn tree(alloc: Global, standing: &[Standing]) -> Result<Tree, PathError> {
+    let mut entries = Vec::new(alloc);
+    for one in standing {
+        entries.push(entry(alloc, one)?)?;
+    }
+    Ok(Tree::new(entries))
 }
 
-#[test]
-fn one_inode_with_two_contents(rt: HostRuntime) -> Result<(), Fail> {
-    let alloc = rt.alloc();
-    let apart = vec![in alloc; file(alloc, "/a", b"1")?, file(alloc, "/b", b"2")?]?;
-    assert!(rt; fault(alloc, apart) == Some(TreeError::InodeDiffers(1)));
-    Ok(())
+/// The file system that opens with what stands and fails at these calls.
+pub(crate) fn opened(
+    alloc: Global,
+    standing: &[Standing],
+    failing: &[Failing],
+) -> Result<MemFs, TreeError> {
+    match tree(alloc, standing) {
+        Ok(tree) => MemFs::new(alloc, tree, failing.to_vec(alloc)?),
+        Err(_) => Err(TreeError::OutOfMemory),
+    }
 }

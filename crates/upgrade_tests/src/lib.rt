@@ -1,5 +1,5 @@
-//! Tests of the upgrade over a file system in memory. They stand in a crate of their own, since the upgrade itself knows
-//! no file system.
+//! Tests of the upgrade over file systems in memory. They stand in a crate of their own, since the upgrade itself knows no
+//! file system.
 #![tactic(auto)]
 
 #[cfg(test)]
@@ -12,3 +12,5 @@ mod faults;
 mod refusals;
 #[cfg(test)]
 mod runs;
+#[cfg(test)]
+mod sinks;

@@ -1,149 +1,115 @@
 // Whole runs, and the words that are none.
-use crate::clusters::{Edit, WORDS, at, bytes_of, end_of, opened};
-use fs_mem::MemSink;
-use fs_model::Fs;
+use crate::clusters::{DONE, Edit, WORDS, at, has_bytes, opened, tells};
+use fs_model::{Fs, FsError};
 use sample_clusters::page_of_two_rows;
 use std::alloc::Global;
 use std::test::Fail;
-use upgrade_run::{Printed, run};
 
 const OLD_TABLE: &str = "/old/base/16384/16385";
 
 const NEW_TABLE: &str = "/new/base/16384/16385";
 
 // Whether a file has the page of two rows.
-fn has_page<F: Fs>(alloc: Global, fs: &mut F, path: &str) -> Result<bool, Fail> {
-    let page = page_of_two_rows();
-    Ok(bytes_of(alloc, fs, path)?.as_slice() == page.as_slice())
+fn has_page<F: Fs>(alloc: Global, fs: &mut F, path: &str) -> Result<bool, FsError> {
+    has_bytes(alloc, fs, path, &page_of_two_rows())
 }
 
-fn inode_of<F: Fs>(alloc: Global, fs: &mut F, path: &str) -> Result<u64, Fail> {
+fn inode_of<F: Fs>(alloc: Global, fs: &mut F, path: &str) -> Result<u64, FsError> {
     Ok(fs.stat(&at(alloc, path)?)?.identity.inode)
 }
 
-static DONE: &str = "checks: ok\ndatabases: 4\ntables: 1\nfiles: 1\nupgrade: done\n";
-
-// Whether the run is done, with its lines.
-fn is_done<F: Fs>(alloc: Global, fs: &mut F) -> Result<bool, Fail> {
-    let end = end_of(alloc, fs, &WORDS)?;
-    Ok(end.code == 0 && end.printed.as_slice() == DONE.as_bytes())
+// Whether the old and the new file have the page, in two inodes, and the database says its release.
+fn carries<F: Fs>(alloc: Global, fs: &mut F) -> Result<bool, FsError> {
+    Ok(
+        tells(alloc, fs, WORDS, 0, DONE)?
+            && has_bytes(alloc, fs, "/new/base/16384/PG_VERSION", b"16\n")?
+            && has_page(alloc, fs, OLD_TABLE)?
+            && has_page(alloc, fs, NEW_TABLE)?
+            && inode_of(alloc, fs, OLD_TABLE)? != inode_of(alloc, fs, NEW_TABLE)?,
+    )
 }
 
-// The new file has the old one's bytes in an inode of its own, and the database says its release.
 #[test]
 fn carries_a_table_of_two_rows(rt: HostRuntime) -> Result<(), Fail> {
-    let alloc = rt.alloc();
-    let mut fs = opened(alloc, &[], Vec::new(alloc))?;
-    assert!(rt; is_done(alloc, &mut fs)?);
-    assert!(rt; is_carried(alloc, &mut fs)?);
+    assert!(rt; carries(rt.alloc(), &mut opened(rt.alloc(), &[], &[])?)?);
     Ok(())
+}
+
+static EMPTY: [Edit; 2] = [Edit::Remove(OLD_TABLE), Edit::Make(OLD_TABLE, b"")];
+
+fn carries_none<F: Fs>(alloc: Global, fs: &mut F) -> Result<bool, FsError> {
+    Ok(tells(alloc, fs, WORDS, 0, DONE)? && has_bytes(alloc, fs, NEW_TABLE, b"")?)
 }
 
 #[test]
 fn carries_a_table_with_no_row(rt: HostRuntime) -> Result<(), Fail> {
-    let alloc = rt.alloc();
-    let edits = [Edit::Remove(OLD_TABLE), Edit::Make(OLD_TABLE, b"")];
-    let mut fs = opened(alloc, &edits, Vec::new(alloc))?;
-    assert!(rt; is_done(alloc, &mut fs)?);
-    assert!(rt; size_of(alloc, &mut fs, NEW_TABLE)? == 0);
+    assert!(rt; carries_none(rt.alloc(), &mut opened(rt.alloc(), &EMPTY, &[])?)?);
     Ok(())
 }
 
-// Whether the old and the new file have the page, in two inodes, and the database says its release.
-fn is_carried<F: Fs>(alloc: Global, fs: &mut F) -> Result<bool, Fail> {
-    let version = bytes_of(alloc, fs, "/new/base/16384/PG_VERSION")?.as_slice()
-        == b"16\n".as_slice();
-    let pages = has_page(alloc, fs, OLD_TABLE)? && has_page(alloc, fs, NEW_TABLE)?;
-    let apart = inode_of(alloc, fs, OLD_TABLE)? != inode_of(alloc, fs, NEW_TABLE)?;
-    Ok(version && pages && apart)
-}
-
-fn size_of<F: Fs>(alloc: Global, fs: &mut F, path: &str) -> Result<u64, Fail> {
-    Ok(fs.stat(&at(alloc, path)?)?.size)
-}
-
-// Words, and the status and line of their run.
-struct Line {
-    words: &'static [&'static str],
-    code: u8,
-    line: &'static str,
-}
-
-static LINES: [Line; 8] = [
-    Line {
-        words: &[],
-        code: 2,
-        line: "usage fault at word 0\n",
-    },
-    Line {
-        words: &["-d", "/a"],
-        code: 2,
-        line: "usage fault at word 2\n",
-    },
-    Line {
-        words: &["-d", "a", "-D", "/b"],
-        code: 2,
-        line: "usage fault at word 1\n",
-    },
-    Line {
-        words: &["-d", "/a", "-D", "/b", "-c"],
-        code: 2,
-        line: "usage fault at word 4\n",
-    },
-    Line {
-        words: &["-d", "/a", "-D", "/a"],
-        code: 1,
-        line: "refused: the two directories overlap\n",
-    },
-    Line {
-        words: &["-d", "/a", "-D", "/a/b"],
-        code: 1,
-        line: "refused: the two directories overlap\n",
-    },
-    Line {
-        words: &["-d", "/none", "-D", "/new"],
-        code: 1,
-        line: "refused: old directory is missing\n",
-    },
-    Line {
-        words: &["-d", "/old", "-D", "/none"],
-        code: 1,
-        line: "refused: new directory is missing\n",
-    },
+// Words, and the status and the line of their run over the pair.
+static LINES: [(&[&str], u8, &str); 9] = [
+    (&[], 2, "usage fault at word 0\n"),
+    (&["-d", "/a"], 2, "usage fault at word 2\n"),
+    (&["-d", "a", "-D", "/b"], 2, "usage fault at word 1\n"),
+    (&["-d", "/a", "-D", "b"], 2, "usage fault at word 3\n"),
+    (
+        &["-d", "/a", "-D", "/b", "-c"],
+        2,
+        "usage fault at word 4\n",
+    ),
+    (
+        &["-d", "/a", "-D", "/a"],
+        1,
+        "refused: the two directories overlap\n",
+    ),
+    (
+        &["-d", "/a", "-D", "/a/b"],
+        1,
+        "refused: the two directories overlap\n",
+    ),
+    (
+        &["-d", "/none", "-D", "/new"],
+        1,
+        "refused: old directory is missing\n",
+    ),
+    (
+        &["-d", "/old", "-D", "/none"],
+        1,
+        "refused: new directory is missing\n",
+    ),
 ];
 
-// Whether the words' run over the pair ends with the status and the line.
-fn is_told(alloc: Global, line: &Line) -> Result<bool, Fail> {
-    let mut fs = opened(alloc, &[], Vec::new(alloc))?;
-    let end = end_of(alloc, &mut fs, line.words)?;
-    Ok(end.code == line.code && end.printed.as_slice() == line.line.as_bytes())
+fn is_told(alloc: Global, words: &[&str], code: u8, line: &str) -> Result<bool, FsError> {
+    tells(alloc, &mut opened(alloc, &[], &[])?, words, code, line)
 }
 
 #[test]
 fn tells_of_words_and_directories(rt: HostRuntime) -> Result<(), Fail> {
-    for line in &LINES {
-        assert!(rt; is_told(rt.alloc(), line)?);
+    for (words, code, line) in &LINES {
+        assert!(rt; is_told(rt.alloc(), words, *code, line)?, "{words:?}");
     }
     Ok(())
 }
 
-// The status of a run whose sink fails at its first call, and whether it says so.
-fn unprinted<F: Fs>(alloc: Global, fs: &mut F) -> Result<(u8, bool), Fail> {
-    let mut words = Vec::new(alloc);
-    for word in &WORDS {
-        words.push(String::from_str(alloc, word)?)?;
-    }
-    let mut sink = MemSink::new(alloc, vec![in alloc; 0]?);
-    let outcome = run(alloc, &words, fs, &mut sink);
-    Ok((outcome.code(), outcome.printed == Printed::SinkFailed))
+// The root, as so many slashes.
+fn slashes(bytes: &[u8]) -> &str {
+    str::from_utf8(bytes).unwrap_or("")
 }
 
-// A sink that fails stops the printing and not the upgrade.
+// A directory has at most 1,024 bytes.
 #[test]
-fn upgrades_though_nothing_can_be_printed(rt: HostRuntime) -> Result<(), Fail> {
-    let alloc = rt.alloc();
-    let mut fs = opened(alloc, &[], Vec::new(alloc))?;
-    assert!(rt; unprinted(alloc, &mut fs)? == (5, true));
-    assert!(rt; has_page(alloc, &mut fs, NEW_TABLE)?);
+fn words_are_at_most_1024_bytes(rt: HostRuntime) -> Result<(), Fail> {
+    let words = ["-d", slashes(&[b'/'; 1024]), "-D", "/new"];
+    assert!(rt;
+        is_told(
+            rt.alloc(),
+            &words,
+            1,
+            "refused: the two directories overlap\n"
+        )?
+    );
+    let words = ["-d", "/old", "-D", slashes(&[b'/'; 1025])];
+    assert!(rt; is_told(rt.alloc(), &words, 2, "usage fault at word 3\n")?);
     Ok(())
 }
