@@ -1,0 +1,4 @@
+pub mod Faults
+pub mod Selftests
+pub mod Starts
+pub mod Taking
