@@ -1,5 +1,5 @@
 -- Files of one directory that are copied into another, name by name.
-use Rattle.std.proofs.Common.{◌≡◌, ◌≢◌, ◌<◌, ◌+◌, ◌++◌, ◌∙◌, ℕ, Bool, true, false, cond, inl, inr, ◌⊎◌, List, [], ◌∷◌, length, map, Option, Some, None, refl, sym, ap, subst, arith, length-append}
+use Rattle.std.proofs.Common.{◌≡◌, ◌≢◌, ◌++◌, ◌∙◌, ℕ, true, cond, inl, inr, ◌⊎◌, List, [], ◌∷◌, length, map, Option, Some, None, refl, sym, ap, subst, arith, length-append}
 use Rattle.std.specs.Prelude.{is_some}
 use Rattle.std.specs.Option.{option_map, unwrap_or}
 use Rattle.std.specs.List.{AllByRecursion}
@@ -12,18 +12,17 @@ use Rattle.fs_model.specs.declared.effect.Effect.TheVariants.{NewFile}
 use Rattle.fs_model.specs.Names.{Path, parent, path_cmp, same_path}
 use Rattle.fs_model.specs.PathLaws.{path_total}
 use Rattle.fs_model.specs.State.{Names, FsState}
-use Rattle.fs_model.specs.Effects.{apply, bytes_of, set_name, with_bytes, with_change}
-use Rattle.fs_model.specs.Calls.{Lists, ReadsAt, Creates, refusal, blocked, or_else, no_dir, no_file, taken, children}
+use Rattle.fs_model.specs.Effects.{apply, bytes_of, with_bytes, with_change}
+use Rattle.fs_model.specs.Calls.{Lists, ReadsAt, Creates, refusal, or_else, no_dir, no_file, taken, children}
 use Rattle.fs_model.specs.Reading.{file_bytes, inode_of_node}
 use Rattle.fs_model.specs.WellFormed.{WellFormed, IsKnown}
 use Rattle.fs_model.proofs.Lookups.{get-set_name, set_name_here, set_name_other, same_path_or, insert_here, insert_other}
 use Rattle.fs_model.proofs.Runs.{all_weaker}
-use Rattle.fs_model.proofs.Ways.{blocked_set, free_below, none_first}
-use Rattle.fs_tools.specs.Children.{child_of, paths_in, IsIn}
+use Rattle.fs_model.proofs.Ways.{blocked_set, free_below}
+use Rattle.fs_tools.specs.Children.{child_of, IsIn}
 use Rattle.fs_tools.specs.Cleared.{HasNoDirs}
 use Rattle.fs_tools.specs.Walked.{IsAmong}
 use Rattle.fs_tools.proofs.Naming.{IsRising, all_both, parent_child, path_among, paths_stand, paths_rise}
-use Rattle.fs_tools.proofs.Filling.{named_bytes}
 use Rattle.fs_tools.proofs.Copying.{still_readable}
 use Rattle.status_transfer.specs.Carried.{IsInOne, ChangesOnlyIn, CarriesNode, CarriesDir, IsFileOrNone, HoldsFiles, HasNoNames, IsReady, AreApart, CopiesName, CopiesNames}
 use Rattle.status_transfer.proofs.Framing.{none_before, keeps_itself, keeps_name, keeps_bytes}

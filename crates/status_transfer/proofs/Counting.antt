@@ -1,5 +1,5 @@
 -- The write of a control record.
-use Rattle.std.proofs.Common.{◌≡◌, ◌≢◌, ◌≤◌, ◌<◌, ◌+◌, ◌-◌, ◌++◌, ◌∙◌, ℕ, List, [], length, take, drop, replicate, get_or, Option, Some, None, Result, Ok, Err, OnOk, MatchOption, inl, inr, refl, sym, ap, subst, arith, length-append, length-drop}
+use Rattle.std.proofs.Common.{◌≡◌, ◌≤◌, ◌<◌, ◌+◌, ◌-◌, ◌++◌, ◌∙◌, ℕ, List, length, take, drop, replicate, get_or, Option, Some, None, Result, Ok, Err, OnOk, MatchOption, inl, inr, refl, sym, ap, subst, arith, length-append, length-drop}
 use Rattle.std.proofs.lemmas.List.{get_or-append-add, get_or-drop, get_or-take, get_or_append_left, length-take, take_at}
 use Rattle.std.proofs.lemmas.Bool.{cases_lt}
 use Rattle.std.specs.Prelude.{is_some}
@@ -8,21 +8,21 @@ use Rattle.std.specs.FinMap.{get}
 use Rattle.fs_model.specs.declared.node.Node.{Node}
 use Rattle.fs_model.specs.declared.node.Node.TheVariants.{Dir, File, Sym}
 use Rattle.fs_model.specs.declared.effect.Effect.{Effect}
-use Rattle.fs_model.specs.declared.effect.Effect.TheVariants.{Nothing, Bytes}
+use Rattle.fs_model.specs.declared.effect.Effect.TheVariants.{Nothing}
 use Rattle.fs_model.specs.declared.error.FsError.{FsError}
 use Rattle.fs_model.specs.declared.error.FsError.TheVariants.{Failed}
 use Rattle.fs_model.specs.Names.{Path}
 use Rattle.fs_model.specs.State.{FsState}
 use Rattle.fs_model.specs.Effects.{apply, bytes_of, with_bytes}
-use Rattle.fs_model.specs.Calls.{WritesAt, MayDo, MayFail, refusal, or_else, no_file, blocked, overwritten}
-use Rattle.fs_model.specs.Reading.{file_bytes, inode_of_node}
+use Rattle.fs_model.specs.Calls.{WritesAt, MayDo, MayFail, refusal, or_else, no_file, overwritten}
+use Rattle.fs_model.specs.Reading.{inode_of_node}
 use Rattle.fs_model.specs.WellFormed.{WellFormed}
 use Rattle.fs_model.specs.Trail.{Trail, Steps, Since, error_of}
 use Rattle.fs_model.proofs.Lookups.{insert_other}
 use Rattle.fs_model.proofs.Runs.{present_after, steps_since}
 use Rattle.control_file.specs.declared.records.Counters.{Counters}
 use Rattle.control_file.specs.declared.records.Control.{Control}
-use Rattle.control_file.specs.ControlRecord.{IsKept, control_of, counters_of, newest_commit_ts_xid, oldest_commit_ts_xid, right_crc}
+use Rattle.control_file.specs.ControlRecord.{IsKept, control_of, newest_commit_ts_xid, oldest_commit_ts_xid, right_crc}
 use Rattle.control_file.proofs.RecordBytes.{number_at-same}
 use Rattle.control_file.proofs.RecordFields.{control_of-take, right_crc-take, counters_of-same}
 use Rattle.status_transfer.specs.Counted.{CarriesCounters, SetsCounters, IsHeadOf, KeepsAllBut}

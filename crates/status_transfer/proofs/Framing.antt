@@ -1,11 +1,11 @@
 -- Runs that carry files into directories: what each state on the way has.
-use Rattle.std.proofs.Common.{◌≡◌, ◌≢◌, ◌++◌, ◌∙◌, ℕ, true, inl, inr, List, [], ◌∷◌, Option, Some, None, MatchOption, refl, sym, ap, subst, append_assoc}
+use Rattle.std.proofs.Common.{◌≡◌, ◌++◌, ◌∙◌, ℕ, inl, inr, List, [], ◌∷◌, Option, Some, None, MatchOption, refl, sym, ap, subst, append_assoc}
 use Rattle.std.specs.Prelude.{is_some}
 use Rattle.std.specs.FinMap.{get}
 use Rattle.fs_model.specs.declared.node.Node.{Node}
 use Rattle.fs_model.specs.declared.node.Node.TheVariants.{File}
 use Rattle.fs_model.specs.declared.effect.Effect.{Effect}
-use Rattle.fs_model.specs.declared.effect.Effect.TheVariants.{Nothing}
+use Rattle.fs_model.specs.declared.effect.Effect.TheVariants.{Nothing, NewFile}
 use Rattle.fs_model.specs.declared.error.FsError.{FsError}
 use Rattle.fs_model.specs.declared.error.FsError.TheVariants.{Failed}
 use Rattle.fs_model.specs.Names.{Path}
@@ -13,11 +13,11 @@ use Rattle.fs_model.specs.State.{Change, FsState}
 use Rattle.fs_model.specs.Effects.{apply, with_bytes, with_change}
 use Rattle.fs_model.specs.Calls.{Call, Stats, Lists, ReadsAt, Creates, WritesAt, Unlinks, MayDo, MayFail, Does, refusal}
 use Rattle.fs_model.specs.WellFormed.{EachPair}
-use Rattle.fs_model.specs.Trail.{Trail, Goes, Since}
+use Rattle.fs_model.specs.Trail.{Trail, Goes, stays, Since}
 use Rattle.fs_model.proofs.Lookups.{set_name_other, insert_other}
 use Rattle.fs_model.proofs.Runs.{all_append}
 use Rattle.fs_model.proofs.Going.{goes_then, goes_since, goes_weaker}
-use Rattle.crash_safety.specs.Frame.{IsInside, IsMadeSince}
+use Rattle.crash_safety.specs.Frame.{IsInside}
 use Rattle.crash_safety.specs.Calling.{MakesWithin}
 use Rattle.crash_safety.specs.Upgrade.{Upgrade, IsReady}
 use Rattle.crash_safety.specs.Sound.{Stage, Moving, Sound}
@@ -76,36 +76,46 @@ module _ (dirs : List Path) (a : FsState) where
     inside = keeps.inside;
   }
 
-  module _ (s : FsState) (keeps : ChangesOnlyIn dirs a s) where
-    at_effect : (effect is : Effect) → effect ≡ is → ChangesOnlyIn dirs a (apply s is) → ChangesOnlyIn dirs a (apply s effect)
-    at_effect effect is same holds = subst (λ e. ChangesOnlyIn dirs a (apply s e)) (sym same) holds
+-- what a run keeps whose calls it keeps: names that go, new files, and writes to files that a had not
+module _ (dirs : List Path) (a s : FsState) (P : FsState → Type 0) (now : P s) (gone : (path : Path) → IsInOne dirs path → P (with_change s ((path, None) ∷ [])))
+    (made : (path : Path) (inode : ℕ) → IsInOne dirs path → get s.bytes inode ≡ None → P (apply s (NewFile path inode)))
+    (written : (inode : ℕ) (bytes : List ℕ) → get a.bytes inode ≡ None → P (with_bytes s inode bytes)) where
+  at_effect : (effect is : Effect) → effect ≡ is → P (apply s is) → P (apply s effect)
+  at_effect effect is same holds = subst (λ e. P (apply s e)) (sym same) holds
 
-    does : (call : Call) (effect : Effect) → CarriesInto dirs a s call → Does s call effect → ChangesOnlyIn dirs a (apply s effect)
-    does (Stats path) effect allowed is = at_effect effect Nothing is keeps
-    does (Lists path) effect allowed is = at_effect effect Nothing is keeps
-    does (ReadsAt path) effect allowed is = at_effect effect Nothing is keeps
-    does (Unlinks path) effect allowed is = at_effect effect _ is (keeps_name s path None allowed keeps)
-    does (Creates path) effect allowed (inode, none, is) =
-        at_effect effect _ is (keeps_bytes (with_change s ((path, Some (File inode)) ∷ [])) inode [] (none_before s keeps inode none) (keeps_name s path (Some (File inode)) allowed keeps))
-    does (WritesAt path from bytes) effect allowed (inode, named, is) = at_effect effect _ is (keeps_bytes s inode _ (allowed.1 inode named) keeps)
-    does call effect allowed is = absurd allowed
+  does : (call : Call) (effect : Effect) → CarriesInto dirs a s call → Does s call effect → P (apply s effect)
+  does (Stats path) effect allowed is = at_effect effect Nothing is now
+  does (Lists path) effect allowed is = at_effect effect Nothing is now
+  does (ReadsAt path) effect allowed is = at_effect effect Nothing is now
+  does (Unlinks path) effect allowed is = at_effect effect _ is (gone path allowed)
+  does (Creates path) effect allowed (inode, none, is) = at_effect effect _ is (made path inode allowed none)
+  does (WritesAt path from bytes) effect allowed (inode, named, is) = at_effect effect _ is (written inode _ (allowed.1 inode named))
+  does call effect allowed is = absurd allowed
 
-    fails : (call : Call) (effect : Effect) → CarriesInto dirs a s call → MayFail s call effect → ChangesOnlyIn dirs a (apply s effect)
-    fails (WritesAt path from bytes) effect allowed (inode, any, named, are_bytes, is) = at_effect effect _ is (keeps_bytes s inode any (allowed.1 inode named) keeps)
-    fails call effect allowed may = elim may [ inl nothing ↦ at_effect effect Nothing nothing keeps | inr is ↦ does call effect allowed is ]
+  fails : (call : Call) (effect : Effect) → CarriesInto dirs a s call → MayFail s call effect → P (apply s effect)
+  fails (WritesAt path from bytes) effect allowed (inode, any, named, are_bytes, is) = at_effect effect _ is (written inode any (allowed.1 inode named))
+  fails call effect allowed may = elim may [ inl nothing ↦ at_effect effect Nothing nothing now | inr is ↦ does call effect allowed is ]
 
-    refused : (call : Call) (effect : Effect) (found : Option FsError) → CarriesInto dirs a s call → MatchOption found (MayFail s call effect) (λ _. effect ≡ Nothing) → ChangesOnlyIn dirs a (apply s effect)
-    refused call effect None allowed may = fails call effect allowed may
-    refused call effect (Some error) allowed may = at_effect effect Nothing may keeps
+  refused : (call : Call) (effect : Effect) (found : Option FsError) → CarriesInto dirs a s call → MatchOption found (MayFail s call effect) (λ _. effect ≡ Nothing) → P (apply s effect)
+  refused call effect None allowed may = fails call effect allowed may
+  refused call effect (Some error) allowed may = at_effect effect Nothing may now
 
-    each : (call : Call) (answer : Option FsError) (effect : Effect) → CarriesInto dirs a s call → MayDo s call answer effect → ChangesOnlyIn dirs a (apply s effect)
-    each call None effect allowed may = does call effect allowed may.1
-    each call (Some Failed) effect allowed may = refused call effect (refusal s call) allowed may
-    each call (Some error) effect allowed may = at_effect effect Nothing may.1 keeps
+  pub each : (call : Call) (answer : Option FsError) (effect : Effect) → CarriesInto dirs a s call → MayDo s call answer effect → P (apply s effect)
+  each call None effect allowed may = does call effect allowed may.1
+  each call (Some Failed) effect allowed may = refused call effect (refusal s call) allowed may
+  each call (Some error) effect allowed may = at_effect effect Nothing may.1 now
+
+module _ (dirs : List Path) (a s : FsState) (keeps : ChangesOnlyIn dirs a s) where
+  made_keeps : (path : Path) (inode : ℕ) → IsInOne dirs path → get s.bytes inode ≡ None → ChangesOnlyIn dirs a (apply s (NewFile path inode))
+  made_keeps path inode within none = keeps_bytes dirs a (with_change s ((path, Some (File inode)) ∷ [])) inode [] (none_before dirs a s keeps inode none) (keeps_name dirs a s path (Some (File inode)) within keeps)
+
+  pub each_keeps : (call : Call) (answer : Option FsError) (effect : Effect) → CarriesInto dirs a s call → MayDo s call answer effect → ChangesOnlyIn dirs a (apply s effect)
+  each_keeps call answer effect allowed may =
+      each dirs a s (ChangesOnlyIn dirs a) keeps (λ path within. keeps_name dirs a s path None within keeps) made_keeps (λ inode bytes none. keeps_bytes dirs a s inode bytes none keeps) call answer effect allowed may
 
 pub carries_since : (dirs : List Path) (a b : Trail) → Goes (CarriesInto dirs a.present) a b → Since (ChangesOnlyIn dirs a.present) a b
 carries_since dirs a b goes =
-    goes_since (CarriesInto dirs a.present) (ChangesOnlyIn dirs a.present) (λ s call answer effect keeps allowed may. each dirs a.present s keeps call answer effect allowed may) (keeps_itself dirs a.present) goes
+    goes_since (CarriesInto dirs a.present) (ChangesOnlyIn dirs a.present) (λ s call answer effect keeps allowed may. each_keeps dirs a.present s keeps call answer effect allowed may) (keeps_itself dirs a.present) goes
 
 -- two runs after each other, of which the second speaks of its own beginning
 module _ (dirs inner : List Path) (within : (path : Path) → IsInOne inner path → IsInOne dirs path) where
@@ -123,6 +133,17 @@ module _ (dirs inner : List Path) (within : (path : Path) → IsInOne inner path
       let keeps = (carries_since dirs a b front).present in
       goes_then (CarriesInto dirs a.present) front (goes_weaker (CarriesInto inner b.present) (CarriesInto dirs a.present) (λ s call allowed. rebased a.present b.present s call keeps allowed) back)
 
+  -- a run on some directories is one on more
+  pub carries_more : (a b : Trail) → Goes (CarriesInto inner a.present) a b → Goes (CarriesInto dirs a.present) a b
+  carries_more a b goes = carries_joined a a b stays goes
+
+pub in_first : (dir : Path) (dirs : List Path) (path : Path) → IsInOne (dir ∷ []) path → IsInOne (dir ∷ dirs) path
+in_first dir dirs path (inl within) = inl within
+in_first dir dirs path (inr none) = absurd none
+
+pub in_rest : (dir : Path) (dirs : List Path) (path : Path) → IsInOne dirs path → IsInOne (dir ∷ dirs) path
+in_rest dir dirs path within = inr within
+
 -- clearing a directory, and copying a file into it, are such runs
 pub clears_carry : (at : Path) (a s : FsState) (call : Call) → Clears at s call → CarriesInto (at ∷ []) a s call
 clears_carry at a s (Lists path) allowed = tt
@@ -136,7 +157,7 @@ copies_carry dir from to within a s (Creates path) allowed = inl (subst (IsIn di
 copies_carry dir from to within a s (WritesAt path at bytes) allowed = (inl (subst (IsIn dir) (sym allowed.0) within), allowed.1)
 copies_carry dir from to within a s call allowed = absurd allowed
 
-in_inside : (dirs : List Path) (path : Path) → IsInOne dirs path → IsInside dirs path
+pub in_inside : (dirs : List Path) (path : Path) → IsInOne dirs path → IsInside dirs path
 in_inside [] path none = absurd none
 in_inside (dir ∷ dirs) path (inl (name, is)) = inl (name ∷ [], is)
 in_inside (dir ∷ dirs) path (inr within) = inr (in_inside dirs path within)

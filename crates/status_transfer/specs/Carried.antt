@@ -3,7 +3,7 @@ use Rattle.std.specs.Prelude.{◌≡◌, ◌≢◌, ◌⊎◌, ◌++◌, ℕ, tr
 use Rattle.std.specs.List.{AllByRecursion}
 use Rattle.std.specs.FinMap.{get}
 use Rattle.fs_model.specs.declared.node.Node.{Node}
-use Rattle.fs_model.specs.declared.node.Node.TheVariants.{Dir, File, Sym}
+use Rattle.fs_model.specs.declared.node.Node.TheVariants.{Dir, File}
 use Rattle.fs_model.specs.Names.{Path}
 use Rattle.fs_model.specs.State.{Names, Change, FsState}
 use Rattle.fs_model.specs.Effects.{bytes_of}
@@ -38,6 +38,10 @@ pub record ChangesOnlyIn (dirs : List Path) (a s : FsState) : Type 0 where
   pub added : List Change
   pub pending : s.pending ≡ a.pending ++ added
   pub inside : AllByRecursion (EachPair (λ path _. IsInOne dirs path)) added
+
+-- each file has an inode that a had not, or stood in a under this very name
+abbrev pub SharesNone : FsState → FsState → Type 0
+SharesNone a s = (path : Path) (inode : ℕ) → get s.names path ≡ Some (File inode) → (get a.names path ≡ Some (File inode)) ⊎ (get a.bytes inode ≡ None)
 
 -- what stands at a name in t is what stands at one in s: nothing, or a file with the same bytes, in an inode that s had not
 abbrev pub CarriesNode : FsState → FsState → Option Node → Option Node → Type 0

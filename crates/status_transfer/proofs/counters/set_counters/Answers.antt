@@ -1,5 +1,4 @@
-use Rattle.std.proofs.Common.{◌∙◌, None, Result, Ok, Err, OnOk, refl, sym, subst}
-use Rattle.fs_model.specs.declared.error.FsError.{FsError}
+use Rattle.std.proofs.Common.{◌∙◌, refl, sym, subst}
 use Rattle.fs_model.specs.Calls.{WritesAt}
 use Rattle.fs_model.specs.Trail.{DecidedBy, error_of}
 use Rattle.fs_model.proofs.Going.{goes_one}

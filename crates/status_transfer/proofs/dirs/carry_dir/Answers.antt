@@ -1,12 +1,11 @@
-use Rattle.std.proofs.Common.{◌≡◌, ◌≢◌, ◌∙◌, ◌∷◌, [], Err, Some, None, refl, sym, ap, subst}
+use Rattle.std.proofs.Common.{◌∙◌, ◌∷◌, [], Err, None, sym, subst}
 use Rattle.std.proofs.lemmas.Result.{on_ok_weaker}
-use Rattle.fs_model.specs.Calls.{Lists, refusal}
-use Rattle.fs_model.specs.Trail.{Goes, DecidedBy, HasCause, error_of, unless_lack}
+use Rattle.fs_model.specs.Trail.{DecidedBy, HasCause, error_of, unless_lack}
 use Rattle.fs_model.proofs.Going.{goes_weaker}
 use Rattle.fs_model.proofs.Causes.{cause_then}
 use Rattle.fs_tools.specs.Cleared.{Clears}
 use Rattle.fs_tools.proofs.Answering.{decided_on, decides, handed_on}
-use Rattle.status_transfer.specs.Carried.{CarriesInto, CarriesDir}
+use Rattle.status_transfer.specs.Carried.{CarriesInto}
 use Rattle.status_transfer.proofs.Framing.{carries_joined, carries_since, carries_sound, clears_carry}
 use Rattle.status_transfer.proofs.Carrying.{dir_open, no_dirs, no_names, stays_dir, stays_held, carried_before}
 use Rattle.status_transfer.proofs.dirs.carry_dir.Goals as goal

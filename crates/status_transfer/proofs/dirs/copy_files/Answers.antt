@@ -1,12 +1,12 @@
-use Rattle.std.proofs.Common.{◌≡◌, ◌≢◌, ◌∙◌, ◌∷◌, [], Some, None, refl, sym, ap, subst}
+use Rattle.std.proofs.Common.{◌≡◌, ◌∙◌, ◌∷◌, [], Some, None, sym, subst}
 use Rattle.std.specs.List.{AllByRecursion}
 use Rattle.std.proofs.lemmas.Result.{on_ok_weaker}
 use Rattle.fs_model.specs.Calls.{Lists, refusal, children}
-use Rattle.fs_model.specs.Trail.{DecidedBy, HasCause, error_of, unless_lack}
-use Rattle.fs_model.proofs.Going.{goes_one, goes_then}
+use Rattle.fs_model.specs.Trail.{HasCause, error_of, unless_lack}
+use Rattle.fs_model.proofs.Going.{goes_one}
 use Rattle.fs_model.proofs.Runs.{reading_present}
 use Rattle.fs_model.proofs.Causes.{cause_then, cause_unless_lack}
-use Rattle.fs_tools.proofs.Answering.{decided_on, decides, decides_any, steps_decide, handed_on}
+use Rattle.fs_tools.proofs.Answering.{decided_on, decides_any, steps_decide, handed_on}
 use Rattle.status_transfer.specs.Carried.{CarriesInto, CopiesNames, IsReady, AreApart}
 use Rattle.status_transfer.proofs.Framing.{carries_joined}
 use Rattle.status_transfer.proofs.Carrying.{names_ready, names_differ, names_carried, dir_open}

@@ -1,6 +1,5 @@
 use Rattle.std.proofs.Common.{◌≡◌, ◌∙◌, ◌∷◌, [], Some, None, refl, sym, ap, subst}
 use Rattle.std.proofs.lemmas.Result.{IfOk-weaker}
-use Rattle.fs_model.specs.declared.error.FsError.TheVariants.{OutOfMemory}
 use Rattle.fs_model.specs.Calls.{ReadsAt, Creates, refusal, or_else}
 use Rattle.fs_model.specs.Trail.{stays, DecidedBy, HasCause, OthersStay, error_of, unless_lack}
 use Rattle.fs_model.proofs.Going.{goes_weaker}

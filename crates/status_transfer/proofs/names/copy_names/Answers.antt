@@ -1,7 +1,7 @@
-use Rattle.std.proofs.Common.{◌≡◌, ◌∙◌, ◌+◌, ◌≤◌, [], ◌∷◌, ℕ, Err, Some, None, refl, sym, subst, drop, length, arith}
+use Rattle.std.proofs.Common.{◌≡◌, ◌∙◌, ◌+◌, [], ◌∷◌, ℕ, Err, Some, None, refl, sym, subst, drop, arith}
 use Rattle.std.proofs.lemmas.List.{drop_all}
 use Rattle.std.specs.List.{AllByRecursion}
-use Rattle.fs_model.specs.Trail.{stays, DecidedBy, HasCause, error_of, unless_lack}
+use Rattle.fs_model.specs.Trail.{stays, HasCause, unless_lack}
 use Rattle.fs_model.proofs.Causes.{no_cause, cause_then, others_then}
 use Rattle.fs_tools.proofs.Answering.{handed_on, decided_on, decides}
 use Rattle.fs_tools.proofs.Clearing.{next_of}
