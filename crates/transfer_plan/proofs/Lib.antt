@@ -1,0 +1,4 @@
+pub mod Freeing
+pub mod Keeping
+pub mod Listing
+pub mod Staying
