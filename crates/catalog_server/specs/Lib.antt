@@ -5,3 +5,6 @@ pub mod ReplayNames
 pub mod ServerFrame
 pub mod Within
 pub mod SameProfile
+pub mod Needed
+pub mod Fresh
+pub mod MainFiles

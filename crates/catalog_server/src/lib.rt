@@ -9,7 +9,8 @@ mod server;
 
 pub use error::ServerError;
 pub use laws::{
-    reading_rests_on_profile, replay_has_frame, replay_keeps_sound, replay_stays_within,
+    listed_files_are_main_files, needed_directories_give_room, reading_rests_on_profile,
+    replay_has_frame, replay_keeps_sound, replay_stays_within, unused_clusters_have_room,
 };
 pub use relation::Relation;
 pub use server::Server;
