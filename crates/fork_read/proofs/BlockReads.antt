@@ -1,12 +1,16 @@
 -- A block that was read is the block of its number.
-use Rattle.std.proofs.Common.{◌≡◌, ◌∙◌, ℕ, zero, suc, ◌+◌, ◌-◌, ◌*◌, ◌/◌, ◌<◌, ◌≤◌, List, [], ◌∷◌, length, map as mapped, take, drop, min, Option, Some, None, Result, Ok, Err, IfOk, IfSome, slice_get, slice_range, refl, ap, sym, subst, arith, add-zero}
+use Rattle.std.proofs.Common.{◌≡◌, ◌∙◌, true, ℕ, zero, suc, ◌+◌, ◌-◌, ◌*◌, ◌/◌, ◌<◌, ◌≤◌, List, [], ◌∷◌, length, map as mapped, take, drop, min, Option, Some, None, Result, Ok, Err, IfOk, IfSome, slice_get, slice_range, refl, ap, sym, subst, arith, add-zero}
 use Rattle.std.specs.List.{range_with_len}
 use Rattle.std.specs.Option.{unwrap_or, option_map}
 use Rattle.std.specs.FinMap as map
-use Rattle.fs_model.specs.declared.node.Node.TheVariants.{File}
+use Rattle.std.specs.Prelude.{is_some}
+use Rattle.fs_model.specs.declared.node.Node.{Node}
+use Rattle.fs_model.specs.declared.node.Node.TheVariants.{Dir, File, Sym}
 use Rattle.fs_model.specs.declared.error.FsError.{FsError}
 use Rattle.fs_model.specs.Names.{Path}
 use Rattle.fs_model.specs.State.{FsState}
+use Rattle.fs_model.specs.WellFormed.{WellFormed}
+use Rattle.fs_model.specs.Calls.{ReadsAt, refusal, or_else, no_file}
 use Rattle.fs_model.specs.Effects.{bytes_of}
 use Rattle.fs_model.specs.Reading.{Reads, file_bytes, inode_of_node}
 use Rattle.cluster_meaning.specs.Blocks.{blocks_in}
@@ -46,3 +50,21 @@ pub block_read_ok : (s : FsState) (path : Path) (n : ℕ) (into : List ℕ) (ans
     → IfOk answer (λ count. IfSome (slice_get (file_blocks s path) n) (λ block. take count into ≡ block))
 block_read_ok s path n into (Ok count) whole reads = block_read s path n count into whole reads
 block_read_ok s path n into (Err error) whole reads = tt
+
+-- ---- a file that has a block
+
+no_blocks : (n : ℕ) → n < length (blocks_in []) → ⊥
+no_blocks n lt = omega (arith, lt)
+
+has_file : (s : FsState) (path : Path) (n : ℕ) (node : Option Node) → map.get s.names path ≡ node → n < length (file_blocks s path) → (no_file node ≡ None) × (is_some node ≡ true)
+has_file s path n (Some (File inode)) is lt = (refl, refl)
+has_file s path n (Some Dir) is lt = absurd (no_blocks n (subst (λ (o : Option Node). n < length (blocks_in (unwrap_or (option_map (bytes_of s.bytes) (inode_of_node o)) []))) is lt))
+has_file s path n (Some (Sym target)) is lt = absurd (no_blocks n (subst (λ (o : Option Node). n < length (blocks_in (unwrap_or (option_map (bytes_of s.bytes) (inode_of_node o)) []))) is lt))
+has_file s path n None is lt = absurd (no_blocks n (subst (λ (o : Option Node). n < length (blocks_in (unwrap_or (option_map (bytes_of s.bytes) (inode_of_node o)) []))) is lt))
+
+-- what has a block is read without a refusal
+pub has_block : (s : FsState) (path : Path) (n : ℕ) → WellFormed s → n < length (file_blocks s path) → refusal s (ReadsAt path) ≡ None
+has_block s path n formed lt =
+    let file = has_file s path n (map.get s.names path) refl lt in
+    let way = formed.tree path file.1 in
+    λ i. or_else (way i) (file.0 i)

@@ -1,14 +1,15 @@
 -- What was found has the causes of the call.
-use Rattle.std.proofs.Common.{◌≡◌, true, Bool, Option, Some, None, Result, Ok, Err, sym, subst}
+use Rattle.std.proofs.Common.{◌≡◌, true, Bool, Option, Some, None, Result, Ok, Err, refl, sym, subst}
 use Rattle.fs_model.specs.declared.error.FsError.{FsError}
 use Rattle.fs_model.specs.declared.error.FsError.TheVariants.{NotFound, Exists, NotDir, WrongKind, NotEmpty, CrossDevice, CrossDir, Failed, OutOfMemory}
+use Rattle.fs_model.specs.declared.node.Stat.{Stat}
 use Rattle.fs_model.specs.Calls.{Call}
-use Rattle.fs_model.specs.Trail.{Counts, HasCause, Steps, error_of}
+use Rattle.fs_model.specs.Trail.{Counts, DecidedBy, HasCause, Steps, error_of}
 use Rattle.fs_model.specs.Observed.{Observed, OnlyReads}
 use Rattle.fs_model.proofs.Runs.{IsReading}
 use Rattle.fs_model.proofs.Observing.{one_reads}
 use Rattle.fs_model.proofs.Causes.{cause_so_far}
-use Rattle.fork_read.specs.Extents.{found_as}
+use Rattle.fork_read.specs.Extents.{found_as, sized}
 
 found_cause : {T : Type 0} (firm : Bool) (a b : Counts) (answer : Result T FsError) → HasCause firm a b (error_of answer) → HasCause firm a b (error_of (found_as answer))
 found_cause firm a b (Ok value) cause = cause
@@ -32,3 +33,28 @@ found_reads before after call answer result reading is told firm depth steps cau
     subst (λ r. OnlyReads before after (error_of r)) (sym is)
     (with_cause before after (error_of answer) (error_of (found_as answer)) (found_cause before.firm before.counts after.counts answer cause)
     (one_reads before after call (error_of answer) reading told firm depth steps cause))
+
+-- what was found was refused by nothing
+pub found_free : (answer : Result Stat FsError) → DecidedBy None (sized (found_as answer))
+found_free (Ok value) = refl
+found_free (Err OutOfMemory) = tt
+found_free (Err Failed) = tt
+found_free (Err NotFound) = refl
+found_free (Err Exists) = refl
+found_free (Err NotDir) = refl
+found_free (Err WrongKind) = refl
+found_free (Err NotEmpty) = refl
+found_free (Err CrossDevice) = refl
+found_free (Err CrossDir) = refl
+
+-- what decides an error decides it in an answer of another type
+pub decided_as : (T U : Type 0) (refused : Option FsError) (error : FsError) → DecidedBy {T = T} refused (Err error) → DecidedBy {T = U} refused (Err error)
+decided_as T U refused OutOfMemory decided = tt
+decided_as T U refused Failed decided = tt
+decided_as T U refused NotFound decided = decided
+decided_as T U refused Exists decided = decided
+decided_as T U refused NotDir decided = decided
+decided_as T U refused WrongKind decided = decided
+decided_as T U refused NotEmpty decided = decided
+decided_as T U refused CrossDevice decided = decided
+decided_as T U refused CrossDir decided = decided

@@ -1,10 +1,10 @@
 // The segments of a fork that have its blocks.
-ghost use Rattle.std.specs.Prelude.{◌≡◌, ◌-◌, ◌*◌, ℕ, List, [], true, length, IfOk, OnOk, option_map, if◌then◌else◌};
+ghost use Rattle.std.specs.Prelude.{◌≡◌, ◌-◌, ◌*◌, ℕ, List, [], true, None, length, IfOk, OnOk, option_map, if◌then◌else◌};
 ghost use Rattle.std.specs.List.{flat_map, AllByRecursion};
 ghost use Rattle.fs_model.specs.State.{FsState};
 ghost use Rattle.fs_model.specs.Reading.{file_bytes};
 ghost use Rattle.fs_model.specs.WellFormed.{WellFormed};
-ghost use Rattle.fs_model.specs.Trail.{error_of, unless_lack};
+ghost use Rattle.fs_model.specs.Trail.{DecidedBy, error_of, unless_lack};
 ghost use Rattle.fs_model.specs.Observed.{Observed, OnlyReads};
 ghost use Rattle.relation_files.specs.Places.{fork_files};
 ghost use Rattle.relation_files.specs.Sites.{site_at};
@@ -73,6 +73,7 @@ fn find_segment<F: Fs>(
 ) -> Result<bool, FsError>
     ensures reads { OnlyReads (record { told = F.told fs.old; firm = F.firm fs.old; depth = F.depth fs.old; trail = F.trail fs.old; counts = F.counts fs.old })
         (record { told = F.told fs.new; firm = F.firm fs.new; depth = F.depth fs.new; trail = F.trail fs.new; counts = F.counts fs.new }) (unless_lack (error_of result)) }
+    ensures unrefused { DecidedBy None result }
     ensures found { F.told fs.old ≡ true → WellFormed (F.trail fs.old).present → (behind : List (List ℕ)) → IfOk result (λ more.
         extents_told (F.trail fs.old).present extents.new (if more then behind else [])
         ≡ extents_told (F.trail fs.old).present extents.old
@@ -105,6 +106,7 @@ pub fn extents_of<F: Fs>(
 ) -> Result<Vec<Extent>, FsError>
     ensures reads { OnlyReads (record { told = F.told fs.old; firm = F.firm fs.old; depth = F.depth fs.old; trail = F.trail fs.old; counts = F.counts fs.old })
         (record { told = F.told fs.new; firm = F.firm fs.new; depth = F.depth fs.new; trail = F.trail fs.new; counts = F.counts fs.new }) (unless_lack (error_of result)) }
+    ensures unrefused { DecidedBy None result }
     ensures blocks { F.told fs.old ≡ true → WellFormed (F.trail fs.old).present → IfOk result (λ extents.
         flat_map (extent_blocks (F.trail fs.old).present) extents.items
         ≡ numbered 0 (blocks_of relseg_size (fork_files (F.trail fs.old).present (site_at site.now) relation fork))) }

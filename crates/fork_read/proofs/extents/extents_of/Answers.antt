@@ -13,6 +13,7 @@ use Rattle.cluster_meaning.specs.Blocks.{blocks_of, blocks_from, blocks_then, mo
 use Rattle.fork_read.specs.declared.extents.Extent.{Extent}
 use Rattle.fork_read.specs.Extents.{IsBacked, extents_told, extent_blocks}
 use Rattle.fork_read.proofs.SegmentSteps.{at_start, at_segment, at_end, none_behind}
+use Rattle.fork_read.proofs.Found.{decided_as}
 use Rattle.fork_read.proofs.extents.extents_of.Goals as goal
 
 pub loop-segment-init : goal.loop-segment-init
@@ -101,3 +102,6 @@ returns-in-Ok-false-clause-backed g c told formed =
     let kept : Kept (g.F.Fs.trail c.loop-segment.fs).present c.find_segment.result = c.find_segment.ensures.backed (c.loop-segment.invariant.reads.told ∙ told) (subst WellFormed (sym same) formed)
     (subst (λ st. All st c.loop-segment.extents.items.items) (sym same) (c.loop-segment.invariant.backed told formed)) in
     subst (λ st. All st c.find_segment.new.extents.items.items) same (subst (Kept (g.F.Fs.trail c.loop-segment.fs).present) c.in-Ok-false.is kept)
+
+pub returns-in-Err-clause-unrefused : goal.returns-in-Err-clause-unrefused
+returns-in-Err-clause-unrefused g c = decided_as (Unit {0}) (Unit {0}) None c.in-Err.error c.in-Err.ensures.unrefused

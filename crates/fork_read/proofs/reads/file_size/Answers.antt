@@ -1,11 +1,11 @@
-use Rattle.std.proofs.Common.{◌≡◌, ◌∙◌, Option, Result, Ok, Err, refl, sym, ap, subst}
+use Rattle.std.proofs.Common.{◌≡◌, ◌∙◌, Option, None, Result, Ok, Err, refl, sym, ap, subst}
 use Rattle.fs_model.specs.declared.error.FsError.{FsError}
 use Rattle.fs_model.specs.declared.node.Stat.{Stat}
 use Rattle.fs_model.specs.Calls.{Stats}
-use Rattle.fs_model.specs.Trail.{error_of}
+use Rattle.fs_model.specs.Trail.{DecidedBy, error_of}
 use Rattle.fs_model.specs.Observed.{Observed, OnlyReads}
 use Rattle.fork_read.specs.Extents.{sized}
-use Rattle.fork_read.proofs.Found.{found_reads}
+use Rattle.fork_read.proofs.Found.{found_reads, found_free}
 use Rattle.fork_read.proofs.reads.file_size.Goals as goal
 
 sized_error : (found : Result (Option Stat) FsError) → error_of (sized found) ≡ error_of found
@@ -20,3 +20,7 @@ returns-clause-reads g c =
     let call = c.stat-answer.ensures in
     subst (λ answer. OnlyReads before after answer) (sym (ap error_of c.sized.ensures ∙ sized_error c.found_as-found.result))
     (found_reads before after (Stats c.args.at.now) c.stat-answer.result c.found_as-found.result tt c.found_as-found.ensures call.told call.firm call.depth call.steps call.cause)
+
+pub returns-clause-unrefused : goal.returns-clause-unrefused
+returns-clause-unrefused g c =
+    subst (DecidedBy None) (sym (c.sized.ensures ∙ ap sized c.found_as-found.ensures)) (found_free c.stat-answer.result)

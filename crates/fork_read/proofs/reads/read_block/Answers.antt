@@ -1,10 +1,11 @@
-use Rattle.std.proofs.Common.{◌≡◌, ◌∙◌, ◌*◌, ℕ, List, length, take, IfOk, IfSome, slice_get}
+use Rattle.std.proofs.Common.{◌≡◌, ◌∙◌, ◌*◌, ℕ, List, None, subst, length, take, IfOk, IfSome, slice_get}
 use Rattle.fs_model.specs.Calls.{ReadsAt}
-use Rattle.fs_model.specs.Trail.{error_of}
+use Rattle.fs_model.specs.Trail.{DecidedBy, error_of}
+use Rattle.fs_model.proofs.Runs.{steps_decided}
 use Rattle.fs_model.specs.State.{FsState}
 use Rattle.fs_model.specs.Observed.{Observed}
 use Rattle.fs_model.proofs.Observing.{one_reads}
-use Rattle.fork_read.proofs.BlockReads.{block_read_ok}
+use Rattle.fork_read.proofs.BlockReads.{block_read_ok, has_block}
 use Rattle.fork_read.proofs.reads.read_block.Goals as goal
 
 pub returns-clause-reads : goal.returns-clause-reads
@@ -21,3 +22,12 @@ returns-clause-block g c told =
     let into : List ℕ = c.read_at.new.into in
     let whole : length into ≡ 8192 = c.read_at.auto.into ∙ c.requires in
     block_read_ok s c.args.at.now c.args.n into c.read_at.result whole (c.read_at.ensures.gives told)
+
+pub returns-clause-decided : goal.returns-clause-decided
+returns-clause-decided g c told =
+    steps_decided (ReadsAt c.args.at.now) c.read_at.result (g.F.Fs.trail c.args.fs.now) (g.F.Fs.trail c.read_at.new.self) (c.read_at.ensures.steps told)
+
+pub returns-clause-unrefused : goal.returns-clause-unrefused
+returns-clause-unrefused g c told formed lt =
+    subst (λ refused. DecidedBy refused c.read_at.result) (has_block (g.F.Fs.trail c.args.fs.now).present c.args.at.now c.args.n formed lt)
+    (steps_decided (ReadsAt c.args.at.now) c.read_at.result (g.F.Fs.trail c.args.fs.now) (g.F.Fs.trail c.read_at.new.self) (c.read_at.ensures.steps told))

@@ -1,0 +1,3 @@
+pub mod SegmentNames
+pub mod Gathered
+pub mod Deciding
