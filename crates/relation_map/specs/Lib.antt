@@ -1,0 +1,5 @@
+pub mod Places
+pub mod Named
+pub mod Directories
+pub mod Pairs
+pub mod Equal
