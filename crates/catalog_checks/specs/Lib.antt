@@ -1,0 +1,5 @@
+pub mod Clusters
+pub mod Columns
+pub mod First
+pub mod Limits
+pub mod Starting
