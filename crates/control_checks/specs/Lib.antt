@@ -1,0 +1,5 @@
+pub mod Answers
+pub mod Causes
+pub mod Findings
+pub mod Places
+pub mod Records
