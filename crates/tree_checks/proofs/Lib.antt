@@ -1,0 +1,4 @@
+pub mod Firsts
+pub mod Leasts
+pub mod Looking
+pub mod UsedNames
