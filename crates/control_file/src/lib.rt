@@ -12,8 +12,6 @@ mod places;
 mod reading;
 mod records;
 mod releases;
-#[cfg(test)]
-mod tests;
 mod writing;
 
 pub use crc::{crc_is_the_only_remainder, crc32c};

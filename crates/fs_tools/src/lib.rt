@@ -9,8 +9,6 @@ mod identities;
 mod makes;
 mod reads;
 mod syncs;
-#[cfg(test)]
-mod tests;
 mod walks;
 
 pub use clears::clear_dir;

@@ -12,8 +12,6 @@ mod line;
 mod map;
 mod numbers;
 mod page;
-#[cfg(test)]
-mod tests;
 
 pub use crate::error::PageError;
 pub use crate::items::{Item, Items};

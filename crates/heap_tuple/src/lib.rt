@@ -11,8 +11,6 @@ mod layout;
 mod numbers;
 mod shape;
 mod stored;
-#[cfg(test)]
-mod tests;
 
 pub use crate::columns::{Columns, column};
 pub use crate::error::TupleError;

@@ -8,8 +8,6 @@ mod layout;
 mod member;
 mod offset;
 mod place;
-#[cfg(test)]
-mod tests;
 mod update;
 
 pub use laws::{member_place_law, offset_place_law, updater_law, window_law};

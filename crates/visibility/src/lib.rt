@@ -7,8 +7,6 @@ mod lookup;
 mod rules;
 mod seen;
 mod snapshot;
-#[cfg(test)]
-mod tests;
 
 pub use laws::{frozen_law, lookup_law, unknown_law};
 pub use lookup::Lookup;

@@ -9,8 +9,6 @@ mod layout;
 mod place;
 mod segments;
 mod status;
-#[cfg(test)]
-mod tests;
 mod window;
 
 pub use error::SegmentsError;
