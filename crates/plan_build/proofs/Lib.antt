@@ -1,0 +1,11 @@
+pub mod Adding
+pub mod Lists
+pub mod FileNames
+pub mod Holding
+pub mod Reaching
+pub mod Carriable
+pub mod Carrying
+pub mod Standing
+pub mod Distinct
+pub mod Conditions
+pub mod Sparing
