@@ -1,0 +1,25 @@
+//! Tests of the files that two clusters share and of the verdict on them. They are a program, since its cases cost no proof: a
+//! block of `stdin` has what stands, the old cluster at `/o` and the new one at `/n`, and what is found, written by hand. The
+//! program prints each answer that is another below the first line of its block, and the number of blocks.
+#![tactic(auto)]
+
+mod answers;
+mod trees;
+
+use crate::answers::wrong;
+use std::io;
+
+fn main(rt: HostRuntime) -> io::Result<()> {
+    let input = io::read_to_string(rt.alloc(), rt.reader())?;
+    let mut count = 0u64;
+    for block in input.split("\n\n") {
+        count = count.saturating_add(1);
+        let wrong = wrong(rt.alloc(), block)?;
+        if !wrong.is_empty() {
+            let title = block.lines().next().unwrap_or("");
+            println!(rt; "{title}\n{wrong}")?;
+        }
+    }
+    println!(rt; "{count} blocks")?;
+    Ok(())
+}

@@ -1,0 +1,4 @@
+pub mod Judged
+pub mod Crashing
+pub mod NamedBack
+pub mod Single
