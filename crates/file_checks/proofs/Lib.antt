@@ -1,0 +1,9 @@
+pub mod Bad
+pub mod Found
+pub mod Keeping
+pub mod Lists
+pub mod Locating
+pub mod Naming
+pub mod Nearest
+pub mod Oks
+pub mod Relating

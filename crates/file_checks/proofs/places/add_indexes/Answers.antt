@@ -1,0 +1,10 @@
+use Rattle.std.proofs.Common.{sym}
+use Rattle.catalog.specs.declared.relations.Index.{Index}
+use Rattle.catalog.specs.Spaces.{index_place}
+use Rattle.relation_files.specs.Relations.{relation_at}
+use Rattle.file_checks.proofs.Lists.{adding_one}
+use Rattle.file_checks.proofs.places.add_indexes.Goals as goal
+
+pub loop-i-preserved : goal.loop-i-preserved
+loop-i-preserved c =
+    adding_one (λ (i : Index). relation_at c.args.database.now (index_place i)) c.args.database.now.indexes c.loop-i.i c.in-Some.index.now c.loop-i.relations.items c.add_relation.new.relations.items _ (sym c.in-Some.ensures) c.in_ok-add_relation-in-Some.ensures c.loop-i.invariant

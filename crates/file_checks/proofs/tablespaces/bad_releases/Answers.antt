@@ -1,0 +1,7 @@
+use Rattle.std.proofs.Common.{None}
+use Rattle.fs_model.specs.Trail.{error_of, unless_lack}
+use Rattle.fs_model.proofs.Observing.{reads_then}
+use Rattle.file_checks.proofs.tablespaces.bad_releases.Goals as goal
+
+pub returns-in-Ok-None-clause-reads : goal.returns-in-Ok-None-clause-reads
+returns-in-Ok-None-clause-reads g c = reads_then _ _ _ None (unless_lack (error_of c.taken.result)) tt c.in-Ok-None.ensures.reads c.taken.ensures.reads

@@ -1,0 +1,5 @@
+pub mod Clusters
+pub mod Tablespaces
+pub mod RelationFiles
+pub mod Devices
+pub mod Kept
