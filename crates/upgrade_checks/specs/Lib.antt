@@ -1,0 +1,4 @@
+pub mod Findings
+pub mod Passing
+pub mod Parts
+pub mod Answers
