@@ -1,0 +1,5 @@
+pub mod Places
+pub mod CarriedFiles
+pub mod Upgraded
+pub mod Upgradable
+pub mod Upgrades
