@@ -1,0 +1,5 @@
+pub mod Valid
+pub mod Free
+pub mod Records
+pub mod Passed
+pub mod PlannedFiles
