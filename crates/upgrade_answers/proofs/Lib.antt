@@ -1,0 +1,2 @@
+pub mod NamedNext
+pub mod Pieces
