@@ -1,0 +1,11 @@
+pub mod Restoring
+pub mod Disabling
+pub mod Ending
+pub mod Planning
+pub mod Locations
+pub mod Carrying
+pub mod Summing
+pub mod Regions
+pub mod Crashing
+pub mod Finishing
+pub mod Framing
