@@ -1,22 +1,33 @@
-//! Makes the small pair of clusters, `old` and `new`, in a directory that its one word names and that doesn't stand yet.
-//! Ends with status 1 where it could not.
+//! Makes a pair of clusters, `old` and `new`, in a directory that its first word names and that doesn't stand yet: the small
+//! pair, or that of so many tables as its second word says, at most 200. Ends with status 1 where it could not.
 #![tactic(auto)]
 
+mod trees;
+
+use crate::trees::put_tree;
 use fs_model::{Fs, Path};
 use fs_real::RealFs;
 use sample_clusters::make_pair;
 use std::env;
 use std::process::ExitCode;
 
+fn make_small<F: Fs>(fs: &mut F, dir: &Path) -> Option<()> {
+    let old = dir.join(&["old"]).ok()?;
+    let new = dir.join(&["new"]).ok()?;
+    make_pair(fs, &old, &new).ok()
+}
+
 fn make(rt: &HostRuntime) -> Option<()> {
     let alloc = rt.alloc();
-    let word = env::args(rt).ok()?.nth(1)?;
+    let mut words = env::args(rt).ok()?;
+    let word = words.nth(1)?;
     let dir = Path::parse(alloc, word.as_str()).ok()?;
     let mut fs = RealFs::new(rt, alloc);
     fs.make_dir(&dir).ok()?;
-    let old = dir.join(&["old"]).ok()?;
-    let new = dir.join(&["new"]).ok()?;
-    make_pair(&mut fs, &old, &new).ok()
+    match words.next() {
+        None => make_small(&mut fs, &dir),
+        Some(tables) => put_tree(alloc, &mut fs, &dir, tables.as_str()),
+    }
 }
 
 fn main(rt: HostRuntime) -> ExitCode {
