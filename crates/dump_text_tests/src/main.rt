@@ -3,26 +3,27 @@
 //! otherwise, and their number.
 #![tactic(auto)]
 
-mod beginnings;
 mod cases;
 mod ends;
-mod furnished;
-mod sample;
-mod whole;
+mod found;
 
 use crate::cases::wrong;
 use std::io;
 
 fn main(rt: HostRuntime) -> io::Result<()> {
     let input = io::read_to_string(rt.alloc(), rt.reader())?;
+    let mut base = "";
     let mut head = "";
     let mut count = 0u64;
     for line in input.lines() {
-        if line.starts_with('@') {
+        if line.starts_with('=') {
+            base = line;
+        } else if line.starts_with('@') {
             head = line;
         } else if !line.starts_with('#') {
             count = count.saturating_add(1);
-            if let Some(end) = wrong(rt.alloc(), head, line)? {
+            if let Some(end) = wrong(rt.alloc(), base, head, line)? {
+                let end = str::from_utf8(&end).unwrap_or("no text");
                 println!(rt; "{head}\n{line}\nends: {end}")?;
             }
         }
