@@ -8,6 +8,7 @@ mod args;
 
 use crate::args::words;
 use fs_real::{OutSink, RealFs};
+use server_profile::ProfileServer;
 use std::io;
 use std::process::ExitCode;
 use upgrade_run::run;
@@ -21,7 +22,8 @@ fn main(rt: HostRuntime) -> ExitCode {
         return ExitCode::from(NO_MEMORY);
     };
     let mut fs = RealFs::new(&rt, alloc);
+    let mut server = ProfileServer::new();
     let mut out = OutSink::new(io::writer(&rt));
-    let outcome = run(alloc, &words, &mut fs, &mut out);
+    let outcome = run(alloc, &words, &mut fs, &mut server, &mut out);
     ExitCode::from(outcome.code())
 }

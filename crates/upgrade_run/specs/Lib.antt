@@ -1,12 +1,4 @@
-pub mod Code
-pub mod Words
-pub mod Places
-pub mod AllPlaces
-pub mod Conditions
-pub mod Refusals
-pub mod Seen
-pub mod Carried
-pub mod Carrying
-pub mod Lines
-pub mod Upgraded
-pub mod Meaning
+pub mod Answers
+pub mod Causes
+pub mod Means
+pub mod Ends
