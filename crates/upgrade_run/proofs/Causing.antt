@@ -1,5 +1,5 @@
 -- Counts behind the answers.
-use Rattle.std.proofs.Common.{◌≡◌, ◌≢◌, ◌≤◌, ◌∙◌, ℕ, Bool, true, false, Option, Some, None, ◌⊎◌, inl, inr, refl, subst, arith}
+use Rattle.std.proofs.Common.{◌≡◌, Bool, true, Some, ◌⊎◌, inl, inr, refl, subst}
 use Rattle.fs_model.specs.declared.error.FsError.{FsError}
 use Rattle.fs_model.specs.declared.error.FsError.TheVariants.{NotFound, Exists, NotDir, WrongKind, NotEmpty, CrossDevice, CrossDir, Failed, OutOfMemory}
 use Rattle.fs_model.specs.Names.{Path}
@@ -12,7 +12,7 @@ use Rattle.compat_checks.specs.declared.answer.Change.TheVariants as change
 use Rattle.upgrade_answers.specs.declared.answer.Answer.{Answer}
 use Rattle.upgrade_answers.specs.declared.answer.Answer.TheVariants.{FsFault, NoMemory, Usage}
 use Rattle.upgrade_run.specs.Answers.{files_answer, change_answer}
-use Rattle.upgrade_run.specs.Causes.{failure_in, WasRefused}
+use Rattle.upgrade_run.specs.Causes.{failure_in}
 use Rattle.upgrade_run.specs.Means.{IsFsFault, IsUsage, HasBegun}
 
 -- the failure that an answer tells, by the error behind it

@@ -1,10 +1,8 @@
 -- The answer where the checks don't pass.
-use Rattle.std.proofs.Common.{◌≡◌, ◌≢◌, ◌≤◌, ◌⊎◌, ℕ, Bool, true, false, Option, Some, None, Result, Ok, Err, inl, inr, refl}
-use Rattle.fs_model.specs.declared.error.FsError.{FsError}
+use Rattle.std.proofs.Common.{Bool, true, false, Some, Result, Err, inl, inr, refl}
 use Rattle.fs_model.specs.declared.error.FsError.TheVariants.{NotFound, Exists, NotDir, WrongKind, NotEmpty, CrossDevice, CrossDir, Failed, OutOfMemory}
-use Rattle.fs_model.specs.Names.{Path}
 use Rattle.fs_model.specs.State.{FsState}
-use Rattle.fs_model.specs.Trail.{Counts, HasCause, unless_lack}
+use Rattle.fs_model.specs.Trail.{Counts, HasCause}
 use Rattle.fs_model.proofs.Causes.{cause_unless_lack}
 use Rattle.control_file.specs.declared.job.Job.{Job}
 use Rattle.control_file.specs.declared.modes.Mode.{Mode}

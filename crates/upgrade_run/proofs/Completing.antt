@@ -1,5 +1,5 @@
 -- Where neither the file system nor the server failed.
-use Rattle.std.proofs.Common.{◌≡◌, Bool}
+use Rattle.std.proofs.Common.{Bool}
 use Rattle.fs_model.specs.State.{FsState}
 use Rattle.fs_model.specs.Names.{Path}
 use Rattle.fs_model.specs.Trail.{Counts, Rose}

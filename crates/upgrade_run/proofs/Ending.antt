@@ -1,12 +1,12 @@
 -- The answer after the phases behind the checks.
-use Rattle.std.proofs.Common.{◌≡◌, ◌≢◌, ◌≤◌, ◌⊎◌, ◌∙◌, ℕ, Bool, true, false, Option, Some, None, Result, Ok, Err, IfOk, IfErr, inl, inr, refl, sym, subst, arith}
+use Rattle.std.proofs.Common.{◌≡◌, ◌≤◌, ◌∙◌, ℕ, Bool, false, Option, Some, None, Result, Ok, Err, IfOk, IfErr, inl, inr, refl, sym, subst, arith}
 use Rattle.std.specs.Prelude.{IsErrAnd}
 use Rattle.fs_model.specs.declared.error.FsError.{FsError}
 use Rattle.fs_model.specs.declared.error.FsError.TheVariants.{NotFound, Exists, NotDir, WrongKind, NotEmpty, CrossDevice, CrossDir, Failed, OutOfMemory}
 use Rattle.fs_model.specs.Names.{Path}
 use Rattle.fs_model.specs.State.{FsState}
 use Rattle.fs_model.specs.Trail.{Counts, Rose, RoseFor, HasCause, unless_lack}
-use Rattle.fs_model.proofs.Causes.{cause_then, cause_so_far}
+use Rattle.fs_model.proofs.Causes.{cause_then}
 use Rattle.control_file.specs.declared.job.Job.{Job}
 use Rattle.control_file.specs.declared.modes.Mode.{Mode}
 use Rattle.control_file.specs.declared.modes.Mode.TheVariants.{Link}
@@ -26,7 +26,7 @@ use Rattle.upgrade_checks.specs.Answers.{HasServerPart}
 use Rattle.upgrade_answers.specs.declared.answer.Answer.{Answer}
 use Rattle.upgrade_answers.specs.declared.answer.Answer.TheVariants.{Done, Checked, Reported, Tested, Usage, Refused, FsFault, ServerFault, Moved, NoMemory}
 use Rattle.upgrade_run.specs.Answers.{phases_answer, fault_answer, files_answer}
-use Rattle.upgrade_run.specs.Causes.{IsLater, LackRose, IsRoot, UpgradeHasCause, ServerCounted, IsServerFault, failure_in}
+use Rattle.upgrade_run.specs.Causes.{IsLater, LackRose, IsRoot, UpgradeHasCause, ServerCounted, failure_in}
 use Rattle.upgrade_run.specs.Means.{Passes, Reached, LeavesAll, IsEarly, IfDone, IsRefusedLink, HasBegun, UpgradeMeans}
 use Rattle.upgrade_run.specs.Ends.{IsFailedIn, ServerFailsIn, IsLackCounted, IsLinkChange}
 use Rattle.upgrade_run.proofs.Causing.{files_counts, change_begun}

@@ -1,5 +1,5 @@
 -- What the phases behind the checks leave, with the catalog that was read.
-use Rattle.std.proofs.Common.{◌≡◌, ◌∙◌, ◌⊎◌, None, Ok, Result, inl, inr, ap, subst}
+use Rattle.std.proofs.Common.{◌≡◌, ◌∙◌, ◌⊎◌, None, Ok, inl, inr, ap, subst}
 use Rattle.std.specs.Prelude.{◌-◌, ◌^◌, min, length}
 use Rattle.std.specs.FinMap.{get}
 use Rattle.fs_model.specs.State.{FsState}

@@ -1,6 +1,6 @@
 -- What the checks give for the first phase.
-use Rattle.std.proofs.Common.{◌≡◌, ◌∙◌, ℕ, Bool, true, false, if◌then◌else◌, List, Option, Some, None, Result, Ok, Err, refl, sym, ap, subst}
-use Rattle.std.specs.Prelude.{take, [], length, nat_lt, ◌==◌}
+use Rattle.std.proofs.Common.{◌≡◌, ◌∙◌, ℕ, Bool, true, false, if◌then◌else◌, List, Ok, Err, sym, ap, subst}
+use Rattle.std.specs.Prelude.{[], length, nat_lt, ◌==◌}
 use Rattle.std.specs.Option.{unwrap_or}
 use Rattle.fs_model.specs.State.{FsState}
 use Rattle.fs_model.specs.Reading.{file_bytes}
@@ -19,7 +19,7 @@ use Rattle.compat_checks.specs.declared.answer.Passed.{Passed}
 use Rattle.upgrade_checks.specs.Findings.{Reader, readings_in}
 use Rattle.upgrade_checks.specs.Passing.{FindsNothing}
 use Rattle.upgrade_checks.specs.Answers.{IsReadFrom}
-use Rattle.phase_facts.specs.CanUpgrade.{AreRead, CanUpgrade}
+use Rattle.phase_facts.specs.CanUpgrade.{AreRead}
 use Rattle.phases.specs.Begun.{IsOpened}
 use Rattle.fs_model.specs.Trail.{Trail, Unchanged}
 use Rattle.crash_safety.specs.Sound.{Whole}

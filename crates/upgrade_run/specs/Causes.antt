@@ -1,12 +1,12 @@
 -- What was counted where a run answers a fault, and the phases that may meet it.
-use Rattle.std.specs.Prelude.{◌≡◌, ◌≢◌, ◌≤◌, ◌⊎◌, ℕ, Bool, true, false, Option, Some, None}
+use Rattle.std.specs.Prelude.{◌≡◌, ◌≢◌, ◌≤◌, ◌⊎◌, Bool, true, false, Option, Some, None}
 use Rattle.fs_model.specs.declared.error.FsError.{FsError}
 use Rattle.fs_model.specs.declared.error.FsError.TheVariants as files
 use Rattle.fs_model.specs.Names.{Path}
-use Rattle.fs_model.specs.Trail.{Counts, Rose, HasCause}
+use Rattle.fs_model.specs.Trail.{Counts, Rose}
 use Rattle.control_file.specs.declared.job.Job.{Job}
 use Rattle.control_file.specs.declared.modes.Mode.{Mode}
-use Rattle.control_file.specs.declared.modes.Mode.TheVariants.{Copy, Link}
+use Rattle.control_file.specs.declared.modes.Mode.TheVariants.{Link}
 use Rattle.catalog_server.specs.Answers.{ServerCounts}
 use Rattle.compat_checks.specs.declared.answer.Change.{Change}
 use Rattle.compat_checks.specs.declared.answer.Change.TheVariants as change
@@ -15,7 +15,7 @@ use Rattle.accepted_words.specs.declared.line.Line.TheVariants.{Upgrade, Report}
 use Rattle.phase_names.specs.declared.names.PhaseName.{PhaseName}
 use Rattle.phase_names.specs.declared.names.PhaseName.TheVariants as phase
 use Rattle.upgrade_answers.specs.declared.answer.Answer.{Answer}
-use Rattle.upgrade_answers.specs.declared.answer.Answer.TheVariants.{Done, Checked, Reported, Tested, Usage, Refused, FsFault, ServerFault, Moved, NoMemory}
+use Rattle.upgrade_answers.specs.declared.answer.Answer.TheVariants.{Done, Checked, Reported, Refused, FsFault, ServerFault, Moved, NoMemory}
 
 -- The phases behind the checks in which a file system may fail or memory may lack: the old cluster is disabled in link mode alone.
 abbrev pub IsLater : Mode → PhaseName → Type 0

@@ -1,9 +1,6 @@
-use Rattle.std.proofs.Common.{◌≡◌, ◌∙◌, IfErr, refl, sym, ap, subst}
-use Rattle.std.specs.Prelude.{codes}
-use Rattle.fs_model.specs.Names.{Path}
+use Rattle.std.proofs.Common.{◌∙◌, sym, subst}
 use Rattle.control_file.specs.declared.job.Job.{Job}
 use Rattle.control_file.specs.declared.modes.Side.TheVariants.{New}
-use Rattle.phase_names.specs.declared.names.PhaseName.TheVariants.{Finish}
 use Rattle.upgrade_run.specs.Causes.{IsLater, LackRose}
 use Rattle.upgrade_run.specs.Ends.{IsFailedIn, IsLackCounted, IsLinkChange, CrashesSafely, EndsFinished}
 use Rattle.upgrade_run.proofs.Ending.{failed_files, no_change, handed_on, lacked_later}

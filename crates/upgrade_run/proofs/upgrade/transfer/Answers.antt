@@ -1,4 +1,4 @@
-use Rattle.std.proofs.Common.{◌≡◌, ◌∙◌, Err, IfErr, sym, subst}
+use Rattle.std.proofs.Common.{◌∙◌, IfErr, sym, subst}
 use Rattle.control_file.specs.declared.job.Job.{Job}
 use Rattle.control_file.specs.declared.modes.Side.{Side}
 use Rattle.control_file.specs.declared.modes.Side.TheVariants.{New}

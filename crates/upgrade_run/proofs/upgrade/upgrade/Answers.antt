@@ -1,17 +1,12 @@
-use Rattle.std.proofs.Common.{◌≡◌, ◌∙◌, false, None, IfErr, refl, sym, ap, subst}
-use Rattle.fs_model.specs.State.{FsState}
+use Rattle.std.proofs.Common.{◌∙◌, false, IfErr, sym, subst}
 use Rattle.fs_model.specs.Trail.{HasCause}
-use Rattle.fs_model.proofs.Causes.{cause_then}
 use Rattle.control_file.specs.declared.job.Job.{Job}
-use Rattle.crash_safety.specs.Sound.{Whole}
-use Rattle.phase_facts.proofs.Reading.{reads_held}
-use Rattle.phases.specs.Faults.{fault_in, HasPhaseCause}
-use Rattle.phases.specs.Facts.{IsChecked}
+use Rattle.phases.specs.Faults.{fault_in}
 use Rattle.upgrade_run.specs.Causes.{UpgradeHasCause, ServerCounted, failure_in}
 use Rattle.upgrade_run.specs.Means.{LeavesAll, IfDone, HasBegun, UpgradeMeans}
 use Rattle.upgrade_run.specs.Ends.{IsLinkChange, CrashesSafely, EndsFinished}
 use Rattle.upgrade_run.proofs.Checking.{check_begun, check_means, check_leaves, check_cause, check_counts, check_server}
-use Rattle.upgrade_run.proofs.Ending.{phases_begun, phases_means, phases_late, phases_cause, phases_counts, phases_server, phases_finished, leaves_undone, lacks_later, after_check}
+use Rattle.upgrade_run.proofs.Ending.{phases_begun, phases_means, phases_cause, phases_finished, leaves_undone, lacks_later, after_check}
 use Rattle.upgrade_run.specs.Answers.{phases_answer}
 use Rattle.upgrade_run.proofs.Opening.{opened, checked_later}
 use Rattle.upgrade_run.proofs.Framing.{framed_then, framed_unchanged}
