@@ -1,12 +1,10 @@
 // The directories that both clusters need.
-ghost use Rattle.std.specs.Prelude.{◌≡◌, ◌++◌, true, Some, IfOk, IfErr, OnOk};
-ghost use Rattle.std.specs.Option.{option_map};
+ghost use Rattle.std.specs.Prelude.{◌≡◌, ◌++◌, true, Some, is_some, IfOk, IfErr, OnOk};
 ghost use Rattle.std.specs.List.{find};
 ghost use Rattle.fs_model.specs.declared.error.FsError.TheVariants.{OutOfMemory};
 ghost use Rattle.fs_model.specs.Trail.{error_of, unless_lack};
 ghost use Rattle.fs_model.specs.WellFormed.{WellFormed};
 ghost use Rattle.fs_model.specs.Observed.{OnlyReads};
-ghost use Rattle.fs_tools.specs.Children.{child_of};
 ghost use Rattle.tree_checks.specs.Findings.{IsFirstAmong};
 ghost use Rattle.tree_checks.specs.Looks.{IsNoRefusal};
 ghost use Rattle.tree_checks.specs.MissingDirs.{status_dirs, target_dirs, IsNoDir, is_no_file_in, IsBadStatus, IsMissingDir};
@@ -71,13 +69,13 @@ fn no_dir<F: Fs>(fs: &mut F, dir: &Path) -> Result<Option<Path>, FsError>
     }
 }
 
-// The path of the first of these names in a directory that is not one of a file.
-fn first_no_file<F: Fs>(fs: &mut F, dir: &Path, names: &[Name]) -> Result<Option<Path>, FsError>
+// Whether one of these names in a directory is not that of a file.
+fn has_no_file<F: Fs>(fs: &mut F, dir: &Path, names: &[Name]) -> Result<bool, FsError>
     ensures reads { OnlyReads (record { told = F.told fs.old; firm = F.firm fs.old; depth = F.depth fs.old; trail = F.trail fs.old; counts = F.counts fs.old })
         (record { told = F.told fs.new; firm = F.firm fs.new; depth = F.depth fs.new; trail = F.trail fs.new; counts = F.counts fs.new }) (unless_lack (error_of result)) }
     ensures never_refused { IsNoRefusal result }
     ensures finds { F.told fs.old ≡ true → WellFormed (F.trail fs.old).present
-        → IfOk result (λ found. found ≡ option_map (child_of dir.now) (find (is_no_file_in (F.trail fs.old).present.names dir.now) names.now)) }
+        → IfOk result (λ found. found ≡ is_some (find (is_no_file_in (F.trail fs.old).present.names dir.now) names.now)) }
 {
     for name in names {
         let Ok(path) = dir.child(name) else {
@@ -86,13 +84,13 @@ fn first_no_file<F: Fs>(fs: &mut F, dir: &Path, names: &[Name]) -> Result<Option
         match kind_at(fs, &path) {
             Ok(kind) => {
                 if !is_file(kind) {
-                    return Ok(Some(path));
+                    return Ok(true);
                 }
             }
             Err(error) => return Err(error),
         }
     }
-    Ok(None)
+    Ok(false)
 }
 
 // What is wrong with a directory of status files.
@@ -103,7 +101,11 @@ fn bad_status<F: Fs>(alloc: Global, fs: &mut F, dir: &Path) -> Result<Option<Pat
     ensures finds { F.told fs.old ≡ true → WellFormed (F.trail fs.old).present → IfOk result (IsBadStatus (F.trail fs.old).present.names dir.now) }
 {
     match names_at(alloc, fs, dir) {
-        Ok(Some(names)) => first_no_file(fs, dir, &names),
+        Ok(Some(names)) => match has_no_file(fs, dir, &names) {
+            Ok(true) => copy_of(dir),
+            Ok(false) => Ok(None),
+            Err(error) => Err(error),
+        },
         Ok(None) => copy_of(dir),
         Err(error) => Err(error),
     }

@@ -93,7 +93,7 @@ device_excludes s old new c = among_excludes (IsOtherDevice s (old_site old c) (
 
 bad_status : (names : Names) (dir : Path) → IsPathTest (IsBadStatus names dir)
 bad_status names dir path none (inl some) = absurd (cc (none.0, some))
-bad_status names dir path none (inr some) = none.1 path some.1.0
+bad_status names dir path none (inr (stands, (is, other, named))) = none.1 other named
 
 missing_dir_excludes : (s : FsState) (old new : Path) → IsPathTest (IsMissingDir s.names old new)
 missing_dir_excludes s old new =

@@ -7,7 +7,7 @@ use Rattle.fs_tools.specs.Children.{child_of}
 use Rattle.tree_checks.specs.Looks.{is_file, kind_at}
 use Rattle.tree_checks.specs.MissingDirs.{is_no_file_in}
 use Rattle.tree_checks.proofs.Firsts.{find_on}
-use Rattle.tree_checks.proofs.missing.first_no_file.Goals as goal
+use Rattle.tree_checks.proofs.missing.has_no_file.Goals as goal
 
 pub returns-then-not-is_file-clause-reads : goal.returns-then-not-is_file-clause-reads
 returns-then-not-is_file-clause-reads g c = reads_then _ _ _ None None tt c.loop-name.invariant.reads c.in-Ok-kind_at.ensures.reads

@@ -3,7 +3,7 @@ use Rattle.std.specs.List.{find}
 use Rattle.fs_model.specs.WellFormed.{WellFormed}
 use Rattle.fs_model.specs.Observed.{OnlyReads}
 use Rattle.tree_checks.specs.MissingDirs.{is_no_file_in}
-use Rattle.tree_checks.proofs.missing.first_no_file.Given as goal
+use Rattle.tree_checks.proofs.missing.has_no_file.Given as goal
 
 abbrev pub invariant-loop-name : goal.invariant-loop-name
 invariant-loop-name g l = record {
