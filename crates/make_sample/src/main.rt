@@ -2,11 +2,9 @@
 //! pair, or that of so many tables as its second word says, at most 200. Ends with status 1 where it could not.
 #![tactic(auto)]
 
-mod trees;
-
-use crate::trees::put_tree;
 use fs_model::{Fs, Path};
 use fs_real::RealFs;
+use pair_trees::put_pair;
 use sample_clusters::make_pair;
 use std::env;
 use std::process::ExitCode;
@@ -26,7 +24,7 @@ fn make(rt: &HostRuntime) -> Option<()> {
     fs.make_dir(&dir).ok()?;
     match words.next() {
         None => make_small(&mut fs, &dir),
-        Some(tables) => put_tree(alloc, &mut fs, &dir, tables.as_str()),
+        Some(tables) => put_pair(alloc, &mut fs, &dir, tables.parse::<u64>().ok()?),
     }
 }
 

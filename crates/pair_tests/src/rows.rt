@@ -3,8 +3,7 @@ use catalog::{Catalog, Database};
 use catalog_server::Server;
 use cluster_read::rows_of;
 use control_file::Release;
-use fs_mem::MemFs;
-use fs_model::Path;
+use fs_model::{Fs, Path};
 use server_profile::ProfileServer;
 use std::alloc::Global;
 use visibility::Snapshot;
@@ -14,9 +13,9 @@ fn snapshot(alloc: Global) -> Option<Snapshot> {
     Snapshot::new(800, 800, Vec::new(alloc)).ok()
 }
 
-fn rows_of_table(
+fn rows_of_table<F: Fs>(
     alloc: Global,
-    fs: &mut MemFs,
+    fs: &mut F,
     root: &Path,
     release: Release,
     catalog: &Catalog,
@@ -32,9 +31,9 @@ fn rows_of_table(
 }
 
 // The rows of all tables of a database.
-fn rows_of_database(
+fn rows_of_database<F: Fs>(
     alloc: Global,
-    fs: &mut MemFs,
+    fs: &mut F,
     root: &Path,
     release: Release,
     catalog: &Catalog,
@@ -50,10 +49,16 @@ fn rows_of_database(
 }
 
 /// The rows of all tables of the cluster at a root, as its catalog says.
-pub(crate) fn rows_in(alloc: Global, fs: &mut MemFs, root: &str, release: Release) -> Option<u64> {
+pub(crate) fn rows_in<F: Fs>(
+    alloc: Global,
+    fs: &mut F,
+    root: &str,
+    release: Release,
+) -> Option<u64> {
     let root = Path::parse(alloc, root).ok()?;
-    let mut server = ProfileServer::new();
-    let catalog = server.read_catalog(alloc, fs, &root, release).ok()?;
+    let catalog = ProfileServer::new()
+        .read_catalog(alloc, fs, &root, release)
+        .ok()?;
     let mut count = 0u64;
     for n in 0..catalog.database_count() {
         let rows = rows_of_database(alloc, fs, &root, release, &catalog, catalog.database_at(n)?)?;

@@ -3,8 +3,8 @@ use std::alloc::{AllocError, Global};
 use std::env::{Env, FillError};
 use std::str;
 
-/// The longest word that any command line has.
-const LONGEST: usize = 1024;
+/// The longest word that any command line has: `--old-datadir=` and a directory of 1,024 bytes.
+const LONGEST: usize = 14 + 1024;
 
 // The word at a position, if there is one. One that is not UTF-8 or longer than any that a command line has is the empty
 // word, which faults at the same position.

@@ -1,4 +1,4 @@
-// Pairs of so many tables.
+// Putting a tree, entry by entry.
 use cluster_gen::make;
 use fs_mem::{Entry, Tree};
 use fs_model::{Fs, FsError, Path};
@@ -29,14 +29,13 @@ fn put_entry<F: Fs>(fs: &mut F, place: &Path, entry: &Entry) -> Result<(), FsErr
     }
 }
 
-fn pair(alloc: Global, tables: &str) -> Option<Tree> {
-    let tables = tables.parse::<u64>().ok()?;
-    let fs = make(alloc, tables).ok()?;
-    fs.tree(alloc).ok()
+fn pair(alloc: Global, tables: u64) -> Option<Tree> {
+    make(alloc, tables).ok()?.tree(alloc).ok()
 }
 
-/// Makes the pair of so many tables in a directory, and syncs its files.
-pub(crate) fn put_tree<F: Fs>(alloc: Global, fs: &mut F, dir: &Path, tables: &str) -> Option<()> {
+/// Makes the clusters `old` and `new`, the old one with so many tables, at most 200, in a directory that stands, and syncs
+/// their files. `None` where a call failed, memory lacked, or more tables are asked for.
+pub fn put_pair<F: Fs>(alloc: Global, fs: &mut F, dir: &Path, tables: u64) -> Option<()> {
     for (path, entry) in pair(alloc, tables)?.items() {
         let place = below(dir, path)?;
         put_entry(fs, &place, entry).ok()?;
