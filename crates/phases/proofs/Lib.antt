@@ -7,5 +7,8 @@ pub mod Carrying
 pub mod Summing
 pub mod Regions
 pub mod Crashing
+pub mod Beginning
 pub mod Finishing
 pub mod Framing
+pub mod Linking
+pub mod Linked

@@ -1,14 +1,17 @@
 -- How far an upgrade has come: what it began with, and the states after each of its steps.
-use Rattle.std.specs.Prelude.{◌≡◌, ℕ, List}
+use Rattle.std.specs.Prelude.{◌≡◌, ◌++◌, ℕ, List, [], ◌∷◌, None}
+use Rattle.std.specs.FinMap.{get}
 use Rattle.fs_model.specs.State.{FsState}
 use Rattle.control_file.specs.declared.job.Job.{Job}
 use Rattle.control_file.specs.declared.modes.Mode.{Mode}
 use Rattle.control_file.specs.declared.modes.Mode.TheVariants.{Copy, Link}
 use Rattle.control_file.specs.declared.records.Control.{Control}
 use Rattle.catalog.specs.Cluster.{Cluster}
+use Rattle.crash_safety.specs.Places.{links_at}
 use Rattle.crash_safety.specs.Sound.{Stage, Whole, Moved}
 use Rattle.cluster_meaning.specs.Cluster.{control_at as control_in}
 use Rattle.transfer_plan.specs.declared.plan.PlanItem.{PlanItem}
+use Rattle.transfer_plan.specs.Carriable.{AreApart}
 use Rattle.upgraded.specs.Upgraded.{ReadsCatalog}
 use Rattle.upgraded.specs.Upgradable.{IsUpgradable}
 use Rattle.upgraded.specs.CarriedFiles.{IsPlan}
@@ -24,6 +27,8 @@ pub record IsOpened (read : ReadsCatalog) (job : Job) (catalog : Cluster) (contr
   pub upgradable : IsUpgradable read job catalog s
   pub own_files : HasOwnFiles s job catalog
   pub counters : control ≡ control_in s job.old
+  -- NewUsed: the new cluster has no tablespace link
+  pub unlinked : (name : List ℕ) → get s.names (links_at job.new ++ name ∷ []) ≡ None
 
 -- From the start the upgrade went through a state with the schema and one with the status files to s, which has the counters.
 pub record HasStatus (read : ReadsCatalog) (job : Job) (catalog : Cluster) (start s : FsState) : Type 0 where
@@ -40,6 +45,7 @@ pub record HasTransferred (read : ReadsCatalog) (job : Job) (catalog : Cluster) 
   pub status : HasStatus read job catalog start counted
   pub disabled : FsState
   pub plan : IsPlan job catalog counted items
+  pub apart : AreApart items
   pub disables : DisablesByMode job.mode job counted disabled
   pub files : TransfersByMode job.mode items disabled s
 

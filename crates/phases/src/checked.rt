@@ -1,11 +1,12 @@
 ghost use Rattle.std.specs.Prelude.{◌≡◌, true, IfOk, IfErr};
+ghost use Rattle.fs_model.specs.Crash.{Settled};
 ghost use Rattle.fs_model.specs.Trail.{Trail, Since};
 ghost use Rattle.upgraded.specs.Upgraded.{ReadsCatalog};
 ghost use Rattle.phase_facts.specs.Held.{IsSafeSince};
 ghost use Rattle.phase_frames.specs.Framed.{IsFramed};
 ghost use Rattle.phases.specs.Begun.{IsOpened};
 ghost use Rattle.phases.specs.Faults.{fault_in, IsInCluster, IsNoChange, HasPhaseCause};
-ghost use Rattle.phases.specs.Facts.{IsChecked, IsRestored};
+ghost use Rattle.phases.specs.Facts.{IsChecked, IsRestored, LinksKnownSince};
 
 use crate::faults::restore_fault;
 use crate::{PhaseError, Restored};
@@ -48,6 +49,7 @@ impl Checked {
         ensures passed { IfOk result (λ next. next.passed ≡ self.passed) }
         ensures fact { F.told fs.old ≡ true → (opening : Trail) → IsChecked S.catalog_of self opening (F.trail fs.old) → IfOk result (λ next. IsRestored S.catalog_of next opening (F.trail fs.new)) }
         ensures safe { F.told fs.old ≡ true → (opening : Trail) → IsChecked S.catalog_of self opening (F.trail fs.old) → IsSafeSince self.job opening (F.trail fs.new) }
+        ensures links { F.told fs.old ≡ true → (opening : Trail) → IsChecked S.catalog_of self opening (F.trail fs.old) → Settled opening.present → LinksKnownSince self.job opening (F.trail fs.new) }
         ensures frame { F.told fs.old ≡ true → (opening : Trail) → IsChecked S.catalog_of self opening (F.trail fs.old) → IsFramed self.job opening.present (F.trail fs.old).present → Since (IsFramed self.job opening.present) (F.trail fs.old) (F.trail fs.new) }
         ensures unrefused { F.told fs.old ≡ true → (opening : Trail) → IsChecked S.catalog_of self opening (F.trail fs.old) → IfErr result (λ error. IsNoChange error.kind) }
         ensures phase { IfErr result (λ error. error.at ≡ PhaseName.Restore) }

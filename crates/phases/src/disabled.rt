@@ -1,10 +1,11 @@
 ghost use Rattle.std.specs.Prelude.{◌≡◌, true, IfOk, IfErr};
+ghost use Rattle.fs_model.specs.Crash.{Settled};
 ghost use Rattle.fs_model.specs.Trail.{Trail, Since, HasCause, OthersStay};
 ghost use Rattle.upgraded.specs.Upgraded.{ReadsCatalog};
 ghost use Rattle.phase_facts.specs.Held.{IsSafeSince};
 ghost use Rattle.phase_frames.specs.Framed.{IsFramed};
 ghost use Rattle.phases.specs.Faults.{fault_in, files_error, IsOfFiles};
-ghost use Rattle.phases.specs.Facts.{IsDisabled, IsTransferred};
+ghost use Rattle.phases.specs.Facts.{IsDisabled, IsTransferred, LinksKnownSince};
 
 use crate::faults::files_fault;
 use crate::{PhaseError, Transferred};
@@ -37,6 +38,7 @@ impl Disabled {
         ensures catalog { IfOk result (λ next. next.catalog ≡ self.catalog) }
         ensures fact { F.told fs.old ≡ true → (read : ReadsCatalog) (opening : Trail) → IsDisabled read self opening (F.trail fs.old) → IfOk result (λ next. IsTransferred read next opening (F.trail fs.new)) }
         ensures safe { F.told fs.old ≡ true → (read : ReadsCatalog) (opening : Trail) → IsDisabled read self opening (F.trail fs.old) → IsSafeSince self.job opening (F.trail fs.new) }
+        ensures links { F.told fs.old ≡ true → (read : ReadsCatalog) (opening : Trail) → IsDisabled read self opening (F.trail fs.old) → Settled opening.present → LinksKnownSince self.job opening (F.trail fs.new) }
         ensures frame { F.told fs.old ≡ true → (read : ReadsCatalog) (opening : Trail) → IsDisabled read self opening (F.trail fs.old) → IsFramed self.job opening.present (F.trail fs.old).present → Since (IsFramed self.job opening.present) (F.trail fs.old) (F.trail fs.new) }
         ensures phase { IfErr result (λ error. error.at ≡ PhaseName.Transfer) }
         ensures fault { IfErr result (λ error. IsOfFiles self.job.new error.kind) }

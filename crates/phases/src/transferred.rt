@@ -7,7 +7,7 @@ ghost use Rattle.upgraded.specs.Upgraded.{ReadsCatalog, Upgraded};
 ghost use Rattle.phase_facts.specs.Finishing.{IsMarkedSince};
 ghost use Rattle.phase_frames.specs.Framed.{IsFramed};
 ghost use Rattle.phases.specs.Faults.{fault_in, files_error, IsOfFiles, IsNoChange};
-ghost use Rattle.phases.specs.Facts.{IsTransferred, IsFinished};
+ghost use Rattle.phases.specs.Facts.{IsTransferred, IsFinished, LinksKnownSince};
 
 use crate::faults::files_fault;
 use crate::{Finished, PhaseError};
@@ -38,6 +38,7 @@ impl Transferred {
         ensures catalog { IfOk result (λ next. next.catalog ≡ self.catalog) }
         ensures fact { F.told fs.old ≡ true → (read : ReadsCatalog) (opening : Trail) → IsTransferred read self opening (F.trail fs.old) → IfOk result (λ next. IsFinished read next opening (F.trail fs.new)) }
         ensures marked { F.told fs.old ≡ true → (read : ReadsCatalog) (opening : Trail) → IsTransferred read self opening (F.trail fs.old) → IsMarkedSince self.job opening (F.trail fs.old) (F.trail fs.new) }
+        ensures links { F.told fs.old ≡ true → (read : ReadsCatalog) (opening : Trail) → IsTransferred read self opening (F.trail fs.old) → Settled opening.present → LinksKnownSince self.job opening (F.trail fs.new) }
         ensures frame { F.told fs.old ≡ true → (read : ReadsCatalog) (opening : Trail) → IsTransferred read self opening (F.trail fs.old) → IsFramed self.job opening.present (F.trail fs.old).present → Since (IsFramed self.job opening.present) (F.trail fs.old) (F.trail fs.new) }
         // Each crash that shows the mark shows an upgraded cluster.
         ensures crashes { F.told fs.old ≡ true → (read : ReadsCatalog) (opening : Trail) → IsTransferred read self opening (F.trail fs.old) → Settled opening.present → EachCrash (λ x. (get x.names (mark_at self.job.new) ≡ None) ⊎ Upgraded read self.job self.catalog opening.present x) opening (F.trail fs.new) }

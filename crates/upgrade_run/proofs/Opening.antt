@@ -1,7 +1,9 @@
 -- What the checks give for the first phase.
-use Rattle.std.proofs.Common.{◌≡◌, ◌∙◌, ℕ, Bool, true, false, if◌then◌else◌, List, Ok, Err, sym, ap, subst}
-use Rattle.std.specs.Prelude.{[], length, nat_lt, ◌==◌}
+use Rattle.std.proofs.Common.{◌≡◌, ◌∙◌, ◌++◌, ◌∷◌, ℕ, Bool, true, false, if◌then◌else◌, List, Option, Some, None, Ok, Err, refl, sym, ap, subst}
+use Rattle.std.specs.Prelude.{[], length, nat_lt, ◌==◌, is_some}
 use Rattle.std.specs.Option.{unwrap_or}
+use Rattle.std.specs.FinMap.{get}
+use Rattle.fs_model.specs.declared.node.Node.{Node}
 use Rattle.fs_model.specs.State.{FsState}
 use Rattle.fs_model.specs.Reading.{file_bytes}
 use Rattle.fs_model.specs.WellFormed.{WellFormed}
@@ -22,7 +24,11 @@ use Rattle.upgrade_checks.specs.Answers.{IsReadFrom}
 use Rattle.phase_facts.specs.CanUpgrade.{AreRead}
 use Rattle.phases.specs.Begun.{IsOpened}
 use Rattle.fs_model.specs.Trail.{Trail, Unchanged}
+use Rattle.crash_safety.specs.Places.{links_at}
 use Rattle.crash_safety.specs.Sound.{Whole}
+use Rattle.tree_checks.specs.declared.new_dirs.NewDir.TheVariants.{Links}
+use Rattle.tree_checks.specs.Findings.{IsLeast}
+use Rattle.tree_checks.specs.NewDirs.{IsUsed}
 use Rattle.upgraded.specs.Upgraded.{ReadsCatalog}
 use Rattle.phase_facts.proofs.Reading.{reads_held}
 use Rattle.phases.specs.declared.checked.Checked.{Checked}
@@ -62,6 +68,14 @@ same_catalog read s job passed none from =
     let other = from.old_catalog in
     cc (one, other)
 
+-- in a new cluster that isn't in use no tablespace link stands
+unlinked : (s : FsState) (job : Job) → IsLeast (IsUsed s.names job.new) None → (name : List ℕ) → get s.names (links_at job.new ++ name ∷ []) ≡ None
+unlinked s job none name = of (get s.names (links_at job.new ++ name ∷ [])) refl
+  where
+    of : (node : Option Node) → get s.names (links_at job.new ++ name ∷ []) ≡ node → get s.names (links_at job.new ++ name ∷ []) ≡ None
+    of None is = is
+    of (Some node) is = absurd (none (links_at job.new ++ name ∷ []) (Links, (name, refl, ap is_some is, refl)))
+
 -- where no condition holds the upgrade can be opened with what the checks read
 pub opened : (read : Reader) (s : FsState) (job : Job) (passed : Passed) → WellFormed s → FindsNothing s job (readings_in read s job) → IsReadFrom s job (readings_in read s job) passed → IsValid passed.old_catalog → IsOpened read job passed.old_catalog passed.old_control passed.new_record s
 opened read s job passed well none from valid =
@@ -80,6 +94,7 @@ opened read s job passed well none from valid =
         free = upgradable.free_files;
       };
       counters = read_is_control from.old_bytes V15 passed.old_control from.old_control ∙ sym (ap control_of bytes);
+      unlinked = λ name. unlinked s job passes.used name;
     }
 
 -- the first phase, when the checks have read and changed nothing

@@ -88,8 +88,11 @@ fn answer<F: Fs, S: Server<F>>(
 /// In every state of an upgrade, also where not all was on the disk at the beginning, names and bytes at no new place are as at
 /// the beginning, but for the later name of the old control file in link mode. Where all was on the disk at the beginning and
 /// anything was changed, every crash at any moment of the run leaves the old cluster as it was, but for that name, shares none
-/// of its files while it has its control file, and either has no mark or an upgraded cluster. After `Done` the new cluster is the
-/// old one, upgraded, the summary counts its databases and tables, the mark stands, and all is on the disk if it was at the
+/// of its files while it has its control file, and either has no mark or an upgraded cluster; a report on it finds no file
+/// shared with a cluster that can be started and no control file missing, and in link mode naming the control file back gives the
+/// old cluster as it was. After `Done` the new cluster is the
+/// old one, upgraded, the summary counts its databases, its tables and the files of relations that are carried from the
+/// beginning, the mark stands, and all is on the disk if it was at the
 /// beginning. Each fault was counted in this run and comes in a phase that may meet it, want of memory while files are carried
 /// was the file system's, and `Done` comes only without `--check`, `Checked` only with it. Where neither the file system nor the
 /// server failed, the answer is the first condition that held, or `Done` or `Checked`, or a report's verdict, but for want of

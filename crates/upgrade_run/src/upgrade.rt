@@ -8,7 +8,7 @@ ghost use Rattle.upgraded.specs.Upgraded.{ReadsCatalog};
 ghost use Rattle.phase_facts.specs.Held.{IsSafeSince};
 ghost use Rattle.phase_frames.specs.Framed.{IsFramed};
 ghost use Rattle.phases.specs.Faults.{fault_in, files_error, root_of, IsOfFiles, IsNoChange, HasPhaseCause};
-ghost use Rattle.phases.specs.Facts.{IsChecked, IsRestored, IsStatused, IsTransferred};
+ghost use Rattle.phases.specs.Facts.{LinksKnownSince, IsChecked, IsRestored, IsStatused, IsTransferred};
 ghost use Rattle.upgrade_run.specs.Causes.{UpgradeHasCause, ServerCounted, failure_in};
 ghost use Rattle.upgrade_run.specs.Means.{LeavesAll, IfDone, HasBegun, UpgradeMeans};
 ghost use Rattle.upgrade_run.specs.Ends.{IsFailedIn, IsLackCounted, IsLinkChange, CrashesSafely, EndsFinished};
@@ -32,6 +32,7 @@ fn prepare<F: Fs>(alloc: Global, fs: &mut F, restored: Restored) -> Result<Statu
     ensures job { IfOk result (λ next. next.job ≡ restored.job) }
     ensures fact { F.told fs.old ≡ true → (read : ReadsCatalog) (opening : Trail) → IsRestored read restored opening (F.trail fs.old) → IfOk result (λ next. IsStatused read next opening (F.trail fs.new)) }
     ensures safe { F.told fs.old ≡ true → (read : ReadsCatalog) (opening : Trail) → IsRestored read restored opening (F.trail fs.old) → IsSafeSince restored.job opening (F.trail fs.new) }
+    ensures links { F.told fs.old ≡ true → (read : ReadsCatalog) (opening : Trail) → IsRestored read restored opening (F.trail fs.old) → Settled opening.present → LinksKnownSince restored.job opening (F.trail fs.new) }
     ensures unrefused { F.told fs.old ≡ true → (read : ReadsCatalog) (opening : Trail) → IsRestored read restored opening (F.trail fs.old) → IfErr result (λ error. IsNoChange error.kind) }
     ensures fault { IfErr result (IsFailedIn restored.job) }
     ensures files { IfErr result (λ error. (side : ASide) × IsOfFiles (root_of restored.job side) error.kind) }
@@ -51,6 +52,7 @@ fn transfer<F: Fs>(fs: &mut F, mode: Mode, statused: Statused) -> Result<Transfe
     ensures job { IfOk result (λ next. next.job ≡ statused.job) }
     ensures fact { F.told fs.old ≡ true → (read : ReadsCatalog) (opening : Trail) → IsStatused read statused opening (F.trail fs.old) → IfOk result (λ next. IsTransferred read next opening (F.trail fs.new)) }
     ensures safe { F.told fs.old ≡ true → (read : ReadsCatalog) (opening : Trail) → IsStatused read statused opening (F.trail fs.old) → IsSafeSince statused.job opening (F.trail fs.new) }
+    ensures links { F.told fs.old ≡ true → (read : ReadsCatalog) (opening : Trail) → IsStatused read statused opening (F.trail fs.old) → Settled opening.present → LinksKnownSince statused.job opening (F.trail fs.new) }
     ensures unrefused { F.told fs.old ≡ true → (read : ReadsCatalog) (opening : Trail) → IsStatused read statused opening (F.trail fs.old) → IfErr result (λ error. IsLinkChange statused.job error.kind) }
     ensures fault { IfErr result (IsFailedIn statused.job) }
     ensures files { IfErr result (λ error. (side : ASide) × IsOfFiles (root_of statused.job side) error.kind) }

@@ -9,7 +9,7 @@ use Rattle.upgrade_run.proofs.Framing.{framed_then}
 use Rattle.upgrade_run.proofs.upgrade.carry.Goals as goal
 
 pub returns-in_err-restored-clause-crashes : goal.returns-in_err-restored-clause-crashes
-returns-in_err-restored-clause-crashes g c told opening fact settled = before_mark g.S.Server.catalog_of c.args.checked.job opening _ fact.held.begins settled (c.restore.ensures.safe told opening fact)
+returns-in_err-restored-clause-crashes g c told opening fact settled = before_mark g.S.Server.catalog_of c.args.checked.job opening _ fact.held.begins settled (c.restore.ensures.safe told opening fact) (c.restore.ensures.links told opening fact settled)
 
 pub prepare-requires : goal.prepare-requires
 prepare-requires g c = record {
@@ -23,7 +23,8 @@ pub returns-in_err-statused-clause-crashes : goal.returns-in_err-statused-clause
 returns-in_err-statused-clause-crashes g c told opening fact settled =
     let restored = c.in_ok-restored.ensures.fact told opening fact in
     let safe = c.prepare.ensures.safe (c.restore.ensures.told ∙ told) g.S.Server.catalog_of opening restored in
-    subst (λ (job : Job). CrashesSafely g.S.Server.catalog_of job opening (g.F.Fs.trail c.prepare.new.fs)) c.in_ok-restored.ensures.job (before_mark g.S.Server.catalog_of _ opening _ restored.held.begins settled safe)
+    let links = c.prepare.ensures.links (c.restore.ensures.told ∙ told) g.S.Server.catalog_of opening restored settled in
+    subst (λ (job : Job). CrashesSafely g.S.Server.catalog_of job opening (g.F.Fs.trail c.prepare.new.fs)) c.in_ok-restored.ensures.job (before_mark g.S.Server.catalog_of _ opening _ restored.held.begins settled safe links)
 
 pub transfer-requires-clause-fact : goal.transfer-requires-clause-fact
 transfer-requires-clause-fact g c told =
@@ -37,7 +38,8 @@ returns-in_err-transferred-clause-crashes g c told opening fact settled =
     let told_1 = c.restore.ensures.told ∙ told in
     let statused = c.in_ok-statused.ensures.fact told_1 g.S.Server.catalog_of opening (c.in_ok-restored.ensures.fact told opening fact) in
     let safe = c.transfer.ensures.safe (c.prepare.ensures.told ∙ told_1) g.S.Server.catalog_of opening statused in
-    subst (λ (job : Job). CrashesSafely g.S.Server.catalog_of job opening (g.F.Fs.trail c.transfer.new.fs)) (c.in_ok-statused.ensures.job ∙ c.in_ok-restored.ensures.job) (before_mark g.S.Server.catalog_of _ opening _ statused.held.begins settled safe)
+    let links = c.transfer.ensures.links (c.prepare.ensures.told ∙ told_1) g.S.Server.catalog_of opening statused settled in
+    subst (λ (job : Job). CrashesSafely g.S.Server.catalog_of job opening (g.F.Fs.trail c.transfer.new.fs)) (c.in_ok-statused.ensures.job ∙ c.in_ok-restored.ensures.job) (before_mark g.S.Server.catalog_of _ opening _ statused.held.begins settled safe links)
 
 pub finish-requires : goal.finish-requires
 finish-requires g c = record {
@@ -59,7 +61,8 @@ returns-in-Ok-clause-crashes g c told opening fact settled =
     let marked = c.finish.ensures.marked (c.transfer.ensures.told ∙ told_2) g.S.Server.catalog_of opening transferred in
     subst (λ (job : Job). CrashesSafely g.S.Server.catalog_of job opening (g.F.Fs.trail c.finish.new.fs)) (c.in_ok-transferred.ensures.job ∙ c.in_ok-statused.ensures.job ∙ c.in_ok-restored.ensures.job)
     (with_mark g.S.Server.catalog_of _ _ opening _ _ transferred.held.begins settled transferred.transfers.status.opened.upgradable.reading marked
-    (c.finish.ensures.crashes (c.transfer.ensures.told ∙ told_2) g.S.Server.catalog_of opening transferred settled))
+    (c.finish.ensures.crashes (c.transfer.ensures.told ∙ told_2) g.S.Server.catalog_of opening transferred settled)
+    (c.finish.ensures.links (c.transfer.ensures.told ∙ told_2) g.S.Server.catalog_of opening transferred settled))
 
 pub returns-in-Err-clause-crashes : goal.returns-in-Err-clause-crashes
 returns-in-Err-clause-crashes g c told opening fact settled =
@@ -70,7 +73,8 @@ returns-in-Err-clause-crashes g c told opening fact settled =
     let marked = c.finish.ensures.marked (c.transfer.ensures.told ∙ told_2) g.S.Server.catalog_of opening transferred in
     subst (λ (job : Job). CrashesSafely g.S.Server.catalog_of job opening (g.F.Fs.trail c.finish.new.fs)) (c.in_ok-transferred.ensures.job ∙ c.in_ok-statused.ensures.job ∙ c.in_ok-restored.ensures.job)
     (with_mark g.S.Server.catalog_of _ _ opening _ _ transferred.held.begins settled transferred.transfers.status.opened.upgradable.reading marked
-    (c.finish.ensures.crashes (c.transfer.ensures.told ∙ told_2) g.S.Server.catalog_of opening transferred settled))
+    (c.finish.ensures.crashes (c.transfer.ensures.told ∙ told_2) g.S.Server.catalog_of opening transferred settled)
+    (c.finish.ensures.links (c.transfer.ensures.told ∙ told_2) g.S.Server.catalog_of opening transferred settled))
 
 pub returns-in-Ok-clause-finished : goal.returns-in-Ok-clause-finished
 returns-in-Ok-clause-finished g c told opening fact =

@@ -4,6 +4,7 @@ use Rattle.control_file.specs.declared.modes.Side.{Side}
 use Rattle.control_file.specs.declared.modes.Side.TheVariants.{New}
 use Rattle.phase_names.specs.declared.names.PhaseName.TheVariants.{Disable, Transfer}
 use Rattle.phase_facts.specs.Held.{IsSafeSince}
+use Rattle.phases.specs.Facts.{LinksKnownSince}
 use Rattle.phases.specs.Faults.{root_of, IsOfFiles}
 use Rattle.upgrade_run.specs.Ends.{IsFailedIn, IsLackCounted, IsLinkChange}
 use Rattle.upgrade_run.proofs.Ending.{failed_in_files, files_in, no_change, none_changed, handed_on, link_change, takes_none, takes_none_at, lacks_later}
@@ -31,6 +32,11 @@ pub returns-in_ok-disable-in-Link-clause-safe : goal.returns-in_ok-disable-in-Li
 returns-in_ok-disable-in-Link-clause-safe g c told read opening fact =
     subst (λ (job : Job). IsSafeSince job opening (g.F.Fs.trail c.link.new.fs)) c.in_ok-disable-in-Link.ensures.job
     (c.link.ensures.safe (c.disable.ensures.told ∙ told) read opening (c.in_ok-disable-in-Link.ensures.fact told read opening fact))
+
+pub returns-in_ok-disable-in-Link-clause-links : goal.returns-in_ok-disable-in-Link-clause-links
+returns-in_ok-disable-in-Link-clause-links g c told read opening fact settled =
+    subst (λ (job : Job). LinksKnownSince job opening (g.F.Fs.trail c.link.new.fs)) c.in_ok-disable-in-Link.ensures.job
+    (c.link.ensures.links (c.disable.ensures.told ∙ told) read opening (c.in_ok-disable-in-Link.ensures.fact told read opening fact) settled)
 
 pub returns-in_ok-disable-in-Link-clause-fault : goal.returns-in_ok-disable-in-Link-clause-fault
 returns-in_ok-disable-in-Link-clause-fault g c =

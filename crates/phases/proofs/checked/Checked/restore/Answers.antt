@@ -11,6 +11,8 @@ use Rattle.new_names.proofs.Runs.{goes_make_only}
 use Rattle.phase_facts.specs.CanUpgrade.{AreRead}
 use Rattle.phase_facts.proofs.Restored.{restored_held}
 use Rattle.phases.proofs.Restoring.{fault_in_cluster, fault_no_change}
+use Rattle.phases.proofs.Linking.{opening_known}
+use Rattle.phases.proofs.Linked.{restored_links}
 use Rattle.phases.proofs.checked.Checked.restore.Goals as goal
 
 pub returns-in-Ok-clause-fact : goal.returns-in-Ok-clause-fact
@@ -25,6 +27,7 @@ returns-in-Ok-clause-fact g c told opening fact =
     record {
       opened = fact.opened;
       held = restored_held job catalog (started catalog.bootstrap) c.args.self.passed.new_record opening old new fact.opened.can goes fact.held;
+      links = λ settled. restored_links job catalog c.args.self.passed.new_record opening old new fact.opened.can (opening_known job opening old fact.opened.unlinked settled fact.unchanged) goes;
       schema = record {
         only = subst (λ (s : FsState). MakesOnly listed s new.present) fact.unchanged.present (goes_make_only listed old new goes).present;
         all = c.in-Ok.ensures.made told read.old read.new;
@@ -72,3 +75,21 @@ returns-in-Err-clause-frame g c told opening fact framed =
     let catalog = c.args.self.passed.old_catalog in
     let read = subst (AreRead g.S.Server.catalog_of job catalog) (sym fact.unchanged.present) fact.opened.reading in
     restored_framed job catalog (started catalog.bootstrap) c.args.self.passed.new_record opening (g.F.Fs.trail c.args.fs.now) (g.F.Fs.trail c.carry_schema-carried.new.fs) fact.opened.can framed (c.carry_schema-carried.ensures.calls told read.old read.new)
+
+pub returns-in-Ok-clause-links : goal.returns-in-Ok-clause-links
+returns-in-Ok-clause-links g c told opening fact settled =
+    let job = c.args.self.job in
+    let catalog = c.args.self.passed.old_catalog in
+    let old = g.F.Fs.trail c.args.fs.now in
+    let read = subst (AreRead g.S.Server.catalog_of job catalog) (sym fact.unchanged.present) fact.opened.reading in
+    restored_links job catalog c.args.self.passed.new_record opening old (g.F.Fs.trail c.carry_schema-carried.new.fs) fact.opened.can (opening_known job opening old fact.opened.unlinked settled fact.unchanged)
+    (c.carry_schema-carried.ensures.calls told read.old read.new)
+
+pub returns-in-Err-clause-links : goal.returns-in-Err-clause-links
+returns-in-Err-clause-links g c told opening fact settled =
+    let job = c.args.self.job in
+    let catalog = c.args.self.passed.old_catalog in
+    let old = g.F.Fs.trail c.args.fs.now in
+    let read = subst (AreRead g.S.Server.catalog_of job catalog) (sym fact.unchanged.present) fact.opened.reading in
+    restored_links job catalog c.args.self.passed.new_record opening old (g.F.Fs.trail c.carry_schema-carried.new.fs) fact.opened.can (opening_known job opening old fact.opened.unlinked settled fact.unchanged)
+    (c.carry_schema-carried.ensures.calls told read.old read.new)

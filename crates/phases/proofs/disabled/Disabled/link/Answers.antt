@@ -8,6 +8,7 @@ use Rattle.phase_frames.proofs.Steps.{linked_framed}
 use Rattle.phases.specs.Begun.{stage_of}
 use Rattle.phase_facts.proofs.Standing.{links_keep}
 use Rattle.phases.proofs.Regions.{regions_stay}
+use Rattle.phases.proofs.Linked.{linked_links}
 use Rattle.phases.proofs.disabled.Disabled.link.Goals as goal
 
 pub link_all-requires : goal.link_all-requires
@@ -22,11 +23,13 @@ returns-in-Ok-clause-fact g c told read opening fact =
     let new = g.F.Fs.trail c.link_all.new.fs in
     record {
       held = subst (λ mode. Held job (stage_of mode) opening new) (sym fact.mode) (linked_held job c.args.self.plan opening old new fact.inside fact.held (c.link_all.ensures.calls told));
+      links = λ settled. linked_links job opening old new (fact.links settled) c.args.self.plan (c.link_all.ensures.calls told);
       transfers = record {
         counted = fact.counted;
         status = fact.status;
         disabled = old.present;
         plan = is_plan job c.args.self.catalog fact.counted c.args.self.plan fact.status.opened.can.valid fact.planned;
+        apart = fact.can_carry.apart;
         disables = subst (λ mode. DisablesByMode mode job fact.counted old.present) (sym fact.mode) fact.disables;
         files = subst (λ mode. TransfersByMode mode c.args.self.plan old.present new.present) (sym fact.mode) (record { only = (c.link_all.ensures.frame told).present; carried = c.in-Ok.ensures.carried told fact.can_carry });
       };
@@ -49,3 +52,11 @@ returns-in-Ok-clause-frame g c told read opening fact framed =
 pub returns-in-Err-clause-frame : goal.returns-in-Err-clause-frame
 returns-in-Err-clause-frame g c told read opening fact framed =
     linked_framed c.args.self.job c.args.self.plan opening (g.F.Fs.trail c.args.fs.now) (g.F.Fs.trail c.link_all.new.fs) fact.held.begins fact.inside framed (c.link_all.ensures.calls told)
+
+pub returns-in-Ok-clause-links : goal.returns-in-Ok-clause-links
+returns-in-Ok-clause-links g c told read opening fact settled =
+    linked_links c.args.self.job opening (g.F.Fs.trail c.args.fs.now) (g.F.Fs.trail c.link_all.new.fs) (fact.links settled) c.args.self.plan (c.link_all.ensures.calls told)
+
+pub returns-in-Err-clause-links : goal.returns-in-Err-clause-links
+returns-in-Err-clause-links g c told read opening fact settled =
+    linked_links c.args.self.job opening (g.F.Fs.trail c.args.fs.now) (g.F.Fs.trail c.link_all.new.fs) (fact.links settled) c.args.self.plan (c.link_all.ensures.calls told)

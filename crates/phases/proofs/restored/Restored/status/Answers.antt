@@ -11,6 +11,7 @@ use Rattle.phases.proofs.Carrying.{status_held}
 use Rattle.phases.proofs.Disabling.{decided_no_change}
 use Rattle.phases.proofs.Planning.{plan_of_relations}
 use Rattle.phases.proofs.Framing.{status_framed}
+use Rattle.phases.proofs.Linked.{status_links}
 use Rattle.phases.proofs.restored.Restored.status.Goals as goal
 
 pub carry_and_prepare-prepared-requires : goal.carry_and_prepare-prepared-requires
@@ -31,6 +32,7 @@ returns-in-Ok-clause-fact g c told read opening fact =
     let planned = c.in-Ok.ensures.plan told plannable in
     record {
       held = status_held job opening old new fact.held (c.carry_and_prepare-prepared.ensures.calls told);
+      links = λ settled. status_links job opening old new (fact.links settled) (c.carry_and_prepare-prepared.ensures.calls told);
       status = record {
         control = c.args.self.passed.old_control;
         head = head;
@@ -75,3 +77,11 @@ returns-in-Ok-clause-frame g c told read opening fact framed =
 pub returns-in-Err-clause-frame : goal.returns-in-Err-clause-frame
 returns-in-Err-clause-frame g c told read opening fact framed =
     status_framed c.args.self.job opening (g.F.Fs.trail c.args.fs.now) (g.F.Fs.trail c.carry_and_prepare-prepared.new.fs) fact.held.begins framed (c.carry_and_prepare-prepared.ensures.calls told)
+
+pub returns-in-Ok-clause-links : goal.returns-in-Ok-clause-links
+returns-in-Ok-clause-links g c told read opening fact settled =
+    status_links c.args.self.job opening (g.F.Fs.trail c.args.fs.now) (g.F.Fs.trail c.carry_and_prepare-prepared.new.fs) (fact.links settled) (c.carry_and_prepare-prepared.ensures.calls told)
+
+pub returns-in-Err-clause-links : goal.returns-in-Err-clause-links
+returns-in-Err-clause-links g c told read opening fact settled =
+    status_links c.args.self.job opening (g.F.Fs.trail c.args.fs.now) (g.F.Fs.trail c.carry_and_prepare-prepared.new.fs) (fact.links settled) (c.carry_and_prepare-prepared.ensures.calls told)

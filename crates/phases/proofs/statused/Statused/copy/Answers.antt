@@ -9,6 +9,7 @@ use Rattle.phases.specs.Faults.{IsNoChange}
 use Rattle.transfer_plan.specs.Carriable.{targets}
 use Rattle.phase_facts.proofs.Standing.{copies_keep}
 use Rattle.phases.proofs.Regions.{regions_stay}
+use Rattle.phases.proofs.Linked.{copied_links}
 use Rattle.phases.proofs.Disabling.{decided_no_change}
 use Rattle.phase_facts.specs.Held.{Held}
 use Rattle.phase_facts.proofs.Transferred.{copied_held}
@@ -23,15 +24,18 @@ returns-in-Ok-clause-fact g c told read opening fact =
     let catalog = c.args.self.catalog in
     let plan = c.args.self.prepared.plan in
     let valid = fact.status.opened.can.valid in
+    let can_carry = plan_can_be_carried old.present (entries_of job catalog catalog) plan fact.planned in
     record {
       held = subst (λ mode. Held job (stage_of mode) opening new) (sym c.requires.mode) (copied_held job c.args.self.prepared.plan opening old new fact.inside fact.held (c.copy_all.ensures.calls told));
+      links = λ settled. copied_links job opening old new (fact.links settled) (targets plan) (c.copy_all.ensures.calls told);
       transfers = record {
         counted = old.present;
         status = fact.status;
         disabled = old.present;
         plan = is_plan job catalog old.present plan valid fact.planned;
+        apart = can_carry.apart;
         disables = subst (λ mode. DisablesByMode mode job old.present old.present) (sym c.requires.mode) refl;
-        files = subst (λ mode. TransfersByMode mode plan old.present new.present) (sym c.requires.mode) (record { only = (c.copy_all.ensures.frame told).present; carried = c.in-Ok.ensures.carried told (plan_can_be_carried old.present (entries_of job catalog catalog) plan fact.planned) });
+        files = subst (λ mode. TransfersByMode mode plan old.present new.present) (sym c.requires.mode) (record { only = (c.copy_all.ensures.frame told).present; carried = c.in-Ok.ensures.carried told can_carry });
       };
       regions = regions_stay catalog old new (copies_keep (targets plan) old new (c.copy_all.ensures.calls told)) fact.regions;
       places = fact.places;
@@ -60,3 +64,11 @@ returns-in-Ok-clause-frame g c told read opening fact framed =
 pub returns-in-Err-clause-frame : goal.returns-in-Err-clause-frame
 returns-in-Err-clause-frame g c told read opening fact framed =
     copied_framed c.args.self.job c.args.self.prepared.plan opening (g.F.Fs.trail c.args.fs.now) (g.F.Fs.trail c.copy_all.new.fs) fact.held.begins fact.inside framed (c.copy_all.ensures.calls told)
+
+pub returns-in-Ok-clause-links : goal.returns-in-Ok-clause-links
+returns-in-Ok-clause-links g c told read opening fact settled =
+    copied_links c.args.self.job opening (g.F.Fs.trail c.args.fs.now) (g.F.Fs.trail c.copy_all.new.fs) (fact.links settled) (targets c.args.self.prepared.plan) (c.copy_all.ensures.calls told)
+
+pub returns-in-Err-clause-links : goal.returns-in-Err-clause-links
+returns-in-Err-clause-links g c told read opening fact settled =
+    copied_links c.args.self.job opening (g.F.Fs.trail c.args.fs.now) (g.F.Fs.trail c.copy_all.new.fs) (fact.links settled) (targets c.args.self.prepared.plan) (c.copy_all.ensures.calls told)

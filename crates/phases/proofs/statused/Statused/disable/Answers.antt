@@ -13,6 +13,7 @@ use Rattle.phases.specs.Faults.{IsNoChange}
 use Rattle.phase_facts.proofs.Disabled.{rename_free, disabling_safe, disabled_held}
 use Rattle.phase_facts.proofs.Standing.{disabling_keeps}
 use Rattle.phases.proofs.Regions.{regions_stay}
+use Rattle.phases.proofs.Linked.{disabled_links}
 use Rattle.phases.proofs.Disabling.{free_of, goes_of, renamed_of, each_of, decided_no_change, link_disables, disabled_bytes}
 use Rattle.phases.proofs.statused.Statused.disable.Goals as goal
 
@@ -44,6 +45,7 @@ returns-in-Ok-clause-fact g c told read opening fact =
           goes
           (each_of paths.control paths.renamed paths.dir control renamed (parent control) fact.paths.control fact.paths.renamed is_dir old.present (λ u. Sound u Moved new.present) (c.in-Ok.ensures.moved told))
           done;
+      links = λ settled. disabled_links job opening old new (fact.links settled) paths.control paths.renamed paths.dir (c.disable.ensures.calls told);
       mode = c.requires.mode;
       counted = old.present;
       status = fact.status;
@@ -108,3 +110,13 @@ returns-in-Err-clause-frame g c told read opening fact framed =
     let is_dir = paths.together ∙ ap parent fact.paths.control in
     disabled_framed job opening old new fact.held.begins (link_disables job c.requires.mode) framed (parent (control_at job.old))
     (goes_of paths.control paths.renamed paths.dir (control_at job.old) (disabled_at job.old) (parent (control_at job.old)) fact.paths.control fact.paths.renamed is_dir old new (c.disable.ensures.calls told))
+
+pub returns-in-Ok-clause-links : goal.returns-in-Ok-clause-links
+returns-in-Ok-clause-links g c told read opening fact settled =
+    let paths = c.args.self.prepared.control in
+    disabled_links c.args.self.job opening (g.F.Fs.trail c.args.fs.now) (g.F.Fs.trail c.disable.new.fs) (fact.links settled) paths.control paths.renamed paths.dir (c.disable.ensures.calls told)
+
+pub returns-in-Err-clause-links : goal.returns-in-Err-clause-links
+returns-in-Err-clause-links g c told read opening fact settled =
+    let paths = c.args.self.prepared.control in
+    disabled_links c.args.self.job opening (g.F.Fs.trail c.args.fs.now) (g.F.Fs.trail c.disable.new.fs) (fact.links settled) paths.control paths.renamed paths.dir (c.disable.ensures.calls told)

@@ -10,8 +10,9 @@ use Rattle.phase_facts.proofs.Finishable.{can_finish}
 use Rattle.phases.specs.Faults.{IsNoChange}
 use Rattle.phases.proofs.Disabling.{decided_no_change}
 use Rattle.phases.proofs.Crashing.{crashes_have}
-use Rattle.phases.proofs.Finishing.{upgraded_then}
+use Rattle.phases.proofs.Finishing.{upgraded_then, lists_carried}
 use Rattle.phases.proofs.Ending.{still_stage, marks_at_end}
+use Rattle.phases.proofs.Linked.{ended_links}
 use Rattle.phases.proofs.transferred.Transferred.finish.Goals as goal
 
 pub returns-in-Ok-clause-fact : goal.returns-in-Ok-clause-fact
@@ -23,8 +24,10 @@ returns-in-Ok-clause-fact g c told read opening fact =
     let run = c.finish_cluster.ensures.marked told in
     let old = g.F.Fs.trail c.args.fs.now in
     let new = g.F.Fs.trail c.finish_cluster.new.fs in
+    let marks = marks_at_end job old new (c.moment.ensures.well_formed told) fact.held.unmarked c.args.self.places fact.places.mark run in
     record {
-      upgraded = upgraded_then read c.args.self opening old new.present fact (marks_at_end job old new (c.moment.ensures.well_formed told) fact.held.unmarked c.args.self.places fact.places.mark run);
+      upgraded = upgraded_then read c.args.self opening old new.present fact marks;
+      carried = lists_carried read c.args.self opening old new.present fact marks;
       settled = λ settled.
           let needs = fact.held.needs settled in
           c.in-Ok.ensures.settled told (control_at job.new) (end_control job catalog head opening.present can c.args.self.places fact.places) needs.tracked
@@ -79,3 +82,11 @@ returns-in-Ok-clause-frame g c told read opening fact framed =
 pub returns-in-Err-clause-frame : goal.returns-in-Err-clause-frame
 returns-in-Err-clause-frame g c told read opening fact framed =
     ended_framed c.args.self.job opening (g.F.Fs.trail c.args.fs.now) (g.F.Fs.trail c.finish_cluster.new.fs) c.args.self.places fact.places.mark framed (c.finish_cluster.ensures.marked told)
+
+pub returns-in-Ok-clause-links : goal.returns-in-Ok-clause-links
+returns-in-Ok-clause-links g c told read opening fact settled =
+    ended_links c.args.self.job opening (g.F.Fs.trail c.args.fs.now) (g.F.Fs.trail c.finish_cluster.new.fs) (fact.links settled) c.args.self.places (c.finish_cluster.ensures.marked told)
+
+pub returns-in-Err-clause-links : goal.returns-in-Err-clause-links
+returns-in-Err-clause-links g c told read opening fact settled =
+    ended_links c.args.self.job opening (g.F.Fs.trail c.args.fs.now) (g.F.Fs.trail c.finish_cluster.new.fs) (fact.links settled) c.args.self.places (c.finish_cluster.ensures.marked told)
