@@ -6,6 +6,7 @@ pub mod Locations
 pub mod Carrying
 pub mod Summing
 pub mod Regions
+pub mod Devices
 pub mod Crashing
 pub mod Beginning
 pub mod Finishing

@@ -20,6 +20,7 @@ use Rattle.phase_facts.specs.Held.{Held}
 use Rattle.phase_facts.specs.Plans.{IsPlanIn}
 use Rattle.phase_facts.specs.Finishing.{AreEndPlaces, HasRegions}
 use Rattle.phase_facts.specs.Places.{mark_at}
+use Rattle.plan_devices.specs.Kept.{KeepsDevices}
 use Rattle.phases.specs.declared.checked.Checked.{Checked}
 use Rattle.phases.specs.declared.restored.Restored.{Restored}
 use Rattle.phases.specs.declared.statused.Statused.{Statused}
@@ -46,6 +47,8 @@ pub record IsRestored (read : ReadsCatalog) (phase : Restored) (opening now : Tr
   pub held : Held phase.job Whole opening now
   pub links : Settled opening.present → LinksKnownSince phase.job opening now
   pub schema : RestoresSchema read phase.job phase.passed.old_catalog opening.present now.present
+  -- also of the directories that were made
+  pub devices : KeepsDevices opening.present now.present
   pub same : phase.new_catalog ≡ phase.passed.old_catalog
 
 -- the paths are those of the old cluster's control file
@@ -58,6 +61,7 @@ pub record IsStatused (read : ReadsCatalog) (phase : Statused) (opening now : Tr
   pub held : Held phase.job Whole opening now
   pub links : Settled opening.present → LinksKnownSince phase.job opening now
   pub status : HasStatus read phase.job phase.catalog opening.present now.present
+  pub devices : KeepsDevices opening.present now.present
   pub planned : IsPlanOf now.present (entries_of phase.job phase.catalog phase.catalog) phase.prepared.plan
   pub inside : IsPlanIn phase.job opening.present phase.prepared.plan
   pub regions : HasRegions phase.catalog now.present
@@ -72,6 +76,7 @@ pub record IsDisabled (read : ReadsCatalog) (phase : Disabled) (opening now : Tr
   pub counted : FsState
   pub status : HasStatus read phase.job phase.catalog opening.present counted
   pub disables : Disables phase.job counted now.present
+  pub devices : KeepsDevices opening.present now.present
   pub permit : phase.permit ≡ control_at phase.job.old
   pub lacks : Lacks (control_at phase.job.old) now.present
   pub planned : IsPlanOf counted (entries_of phase.job phase.catalog phase.catalog) phase.plan

@@ -4,7 +4,7 @@ ghost use Rattle.fs_model.specs.Trail.{Trail, Since, HasCause, OthersStay};
 ghost use Rattle.upgraded.specs.Upgraded.{ReadsCatalog};
 ghost use Rattle.phase_facts.specs.Held.{IsSafeSince};
 ghost use Rattle.phase_frames.specs.Framed.{IsFramed};
-ghost use Rattle.phases.specs.Faults.{fault_in, files_error, IsOfFiles};
+ghost use Rattle.phases.specs.Faults.{fault_in, files_error, IsOfFiles, IsNoChange};
 ghost use Rattle.phases.specs.Facts.{IsDisabled, IsTransferred, LinksKnownSince};
 
 use crate::faults::files_fault;
@@ -40,6 +40,7 @@ impl Disabled {
         ensures safe { F.told fs.old ≡ true → (read : ReadsCatalog) (opening : Trail) → IsDisabled read self opening (F.trail fs.old) → IsSafeSince self.job opening (F.trail fs.new) }
         ensures links { F.told fs.old ≡ true → (read : ReadsCatalog) (opening : Trail) → IsDisabled read self opening (F.trail fs.old) → Settled opening.present → LinksKnownSince self.job opening (F.trail fs.new) }
         ensures frame { F.told fs.old ≡ true → (read : ReadsCatalog) (opening : Trail) → IsDisabled read self opening (F.trail fs.old) → IsFramed self.job opening.present (F.trail fs.old).present → Since (IsFramed self.job opening.present) (F.trail fs.old) (F.trail fs.new) }
+        ensures unrefused { F.told fs.old ≡ true → (read : ReadsCatalog) (opening : Trail) → IsDisabled read self opening (F.trail fs.old) → IfErr result (λ error. IsNoChange error.kind) }
         ensures phase { IfErr result (λ error. error.at ≡ PhaseName.Transfer) }
         ensures fault { IfErr result (λ error. IsOfFiles self.job.new error.kind) }
         ensures cause { HasCause (F.firm fs.old) (F.counts fs.old) (F.counts fs.new) (files_error (fault_in result)) }

@@ -10,6 +10,8 @@ use Rattle.new_names.specs.Frame.{MakesOnly}
 use Rattle.new_names.proofs.Runs.{goes_make_only}
 use Rattle.phase_facts.specs.CanUpgrade.{AreRead}
 use Rattle.phase_facts.proofs.Restored.{restored_held}
+use Rattle.phase_facts.proofs.Standing.{replay_keeps}
+use Rattle.phases.proofs.Devices.{devices_begun}
 use Rattle.phases.proofs.Restoring.{fault_in_cluster, fault_no_change}
 use Rattle.phases.proofs.Linking.{opening_known}
 use Rattle.phases.proofs.Linked.{restored_links}
@@ -34,6 +36,7 @@ returns-in-Ok-clause-fact g c told opening fact =
         reading = c.in-Ok.ensures.carried told;
         well_formed = c.moment.ensures.well_formed (c.carry_schema-carried.ensures.told ∙ told);
       };
+      devices = devices_begun job opening old new fact.opened.can.begins fact.unchanged.present (replay_keeps listed old new goes);
       same = c.in-Ok.ensures.equal;
     }
 

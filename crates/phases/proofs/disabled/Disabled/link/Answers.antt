@@ -1,4 +1,5 @@
 use Rattle.std.proofs.Common.{sym, subst}
+use Rattle.fs_model.specs.Names.{Path}
 use Rattle.crash_safety.specs.Lacks.{Lacks}
 use Rattle.upgraded.specs.Upgrades.{DisablesByMode, TransfersByMode}
 use Rattle.plan_facts.proofs.Plan.{is_plan}
@@ -9,6 +10,9 @@ use Rattle.phases.specs.Begun.{stage_of}
 use Rattle.phase_facts.proofs.Standing.{links_keep}
 use Rattle.phases.proofs.Regions.{regions_stay}
 use Rattle.phases.proofs.Linked.{linked_links}
+use Rattle.phases.specs.Faults.{IsNoChange}
+use Rattle.phases.proofs.Devices.{planned_devices}
+use Rattle.phases.proofs.Disabling.{decided_no_change}
 use Rattle.phases.proofs.disabled.Disabled.link.Goals as goal
 
 pub link_all-requires : goal.link_all-requires
@@ -60,3 +64,11 @@ returns-in-Ok-clause-links g c told read opening fact settled =
 pub returns-in-Err-clause-links : goal.returns-in-Err-clause-links
 returns-in-Err-clause-links g c told read opening fact settled =
     linked_links c.args.self.job opening (g.F.Fs.trail c.args.fs.now) (g.F.Fs.trail c.link_all.new.fs) (fact.links settled) c.args.self.plan (c.link_all.ensures.calls told)
+
+pub returns-in-Err-clause-unrefused : goal.returns-in-Err-clause-unrefused
+returns-in-Err-clause-unrefused g c told read opening fact =
+    let job = c.args.self.job in
+    let plan = c.args.self.plan in
+    let old = g.F.Fs.trail c.args.fs.now in
+    let devices = planned_devices job c.args.self.catalog fact.status.head opening.present fact.counted old.present plan fact.status.opened.can fact.mode fact.devices fact.planned fact.can_carry in
+    subst IsNoChange (sym c.files_fault.ensures) (decided_no_change Path job.new c.in-Err.error (c.in-Err.ensures.unrefused told fact.can_carry devices))

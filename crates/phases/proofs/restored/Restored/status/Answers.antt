@@ -7,6 +7,7 @@ use Rattle.plan_facts.proofs.Counted.{counted_can_be_planned}
 use Rattle.phases.specs.Faults.{IsNoChange}
 use Rattle.phase_facts.proofs.Finishable.{regions_stand}
 use Rattle.phases.proofs.Regions.{status_regions}
+use Rattle.phases.proofs.Devices.{status_devices}
 use Rattle.phases.proofs.Carrying.{status_held}
 use Rattle.phases.proofs.Disabling.{decided_no_change}
 use Rattle.phases.proofs.Planning.{plan_of_relations}
@@ -41,6 +42,7 @@ returns-in-Ok-clause-fact g c told read opening fact =
         schema = fact.schema;
         transactions = transactions;
       };
+      devices = status_devices job opening old new can.begins (c.carry_and_prepare-prepared.ensures.calls told) fact.devices;
       planned = planned;
       inside = relation_plan_in job catalog head opening.present can c.in-Ok.prepared.plan (plan_of_relations job catalog new.present can.valid c.in-Ok.prepared.plan planned.is);
       regions = status_regions job catalog old new (c.carry_and_prepare-prepared.ensures.calls told) (regions_stand job catalog old.present fact.schema.all);

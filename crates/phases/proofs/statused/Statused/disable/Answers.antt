@@ -12,6 +12,7 @@ use Rattle.phase_frames.proofs.Moves.{disabled_framed}
 use Rattle.phases.specs.Faults.{IsNoChange}
 use Rattle.phase_facts.proofs.Disabled.{rename_free, disabling_safe, disabled_held}
 use Rattle.phase_facts.proofs.Standing.{disabling_keeps}
+use Rattle.phases.proofs.Devices.{devices_stay}
 use Rattle.phases.proofs.Regions.{regions_stay}
 use Rattle.phases.proofs.Linked.{disabled_links}
 use Rattle.phases.proofs.Disabling.{free_of, goes_of, renamed_of, each_of, decided_no_change, link_disables, disabled_bytes}
@@ -50,6 +51,7 @@ returns-in-Ok-clause-fact g c told read opening fact =
       counted = old.present;
       status = fact.status;
       disables = record { renamed = done; bytes = disabled_bytes control renamed (parent control) old new goes };
+      devices = devices_stay job opening old new fact.held.begins fact.devices (disabling_keeps control renamed (parent control) old new goes);
       permit = c.in-Ok.ensures.permit ∙ fact.paths.control;
       lacks = disabled_lacks control renamed (parent control) old new refl (c.moment.ensures.well_formed told) free goes done;
       planned = fact.planned;
