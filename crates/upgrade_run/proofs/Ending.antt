@@ -9,7 +9,6 @@ use Rattle.fs_model.specs.Trail.{Counts, Rose, RoseFor, HasCause, unless_lack}
 use Rattle.fs_model.proofs.Causes.{cause_then}
 use Rattle.control_file.specs.declared.job.Job.{Job}
 use Rattle.control_file.specs.declared.modes.Mode.{Mode}
-use Rattle.control_file.specs.declared.modes.Mode.TheVariants.{Link}
 use Rattle.control_file.specs.declared.modes.Side.{Side}
 use Rattle.control_file.specs.declared.modes.Side.TheVariants.{Old, New}
 use Rattle.catalog_server.specs.Answers.{ServerCounts}
@@ -27,8 +26,8 @@ use Rattle.upgrade_answers.specs.declared.answer.Answer.{Answer}
 use Rattle.upgrade_answers.specs.declared.answer.Answer.TheVariants.{Done, Checked, Reported, Tested, Usage, Refused, FsFault, ServerFault, Moved, NoMemory}
 use Rattle.upgrade_run.specs.Answers.{phases_answer, fault_answer, files_answer}
 use Rattle.upgrade_run.specs.Causes.{IsLater, LackRose, IsRoot, UpgradeHasCause, ServerCounted, failure_in}
-use Rattle.upgrade_run.specs.Means.{Passes, Reached, LeavesAll, IsEarly, IfDone, IsRefusedLink, HasBegun, UpgradeMeans}
-use Rattle.upgrade_run.specs.Ends.{IsFailedIn, ServerFailsIn, IsLackCounted, IsLinkChange}
+use Rattle.upgrade_run.specs.Means.{Passes, Reached, LeavesAll, IsEarly, IfDone, HasBegun, UpgradeMeans}
+use Rattle.upgrade_run.specs.Ends.{IsFailedIn, ServerFailsIn, IsLackCounted}
 use Rattle.upgrade_run.proofs.Causing.{files_counts, change_begun}
 
 reached : (read : Reader) (s : FsState) (job : Job) (at : PhaseName) → Passes read s job → Reached read s job at
@@ -43,28 +42,15 @@ reached read s job Report passes = passes
 reached read s job Make passes = passes
 reached read s job Count passes = passes
 
-files_means : (read : Reader) (s : FsState) (job : Job) (at : PhaseName) (root : Path) (error : FsError) → Passes read s job → IsRefusedLink job root (change.Refused error) → UpgradeMeans read s job (files_answer at root error)
-files_means read s job at root Failed passes link = reached read s job at passes
-files_means read s job at root OutOfMemory passes link = reached read s job at passes
-files_means read s job at root NotFound passes link = (passes, link)
-files_means read s job at root Exists passes link = (passes, link)
-files_means read s job at root NotDir passes link = (passes, link)
-files_means read s job at root WrongKind passes link = (passes, link)
-files_means read s job at root NotEmpty passes link = (passes, link)
-files_means read s job at root CrossDevice passes link = (passes, link)
-files_means read s job at root CrossDir passes link = (passes, link)
-
-pub phases_means : (read : Reader) (s : FsState) (job : Job) (result : Result Summary PhaseError) → IfErr result (λ error. IsLinkChange job error.kind) → Passes read s job → UpgradeMeans read s job (phases_answer result)
-phases_means read s job (Ok summary) link passes = passes
-phases_means read s job (Err error) link passes = means error.kind link
+pub phases_means : (read : Reader) (s : FsState) (job : Job) (result : Result Summary PhaseError) → IfErr result (λ error. IsNoChange error.kind) → Passes read s job → UpgradeMeans read s job (phases_answer result)
+phases_means read s job (Ok summary) none passes = passes
+phases_means read s job (Err error) none passes = means error.kind none
   where
-    means : (kind : PhaseFault) → IsLinkChange job kind → UpgradeMeans read s job (fault_answer error.at kind)
-    means fault.Fs link = reached read s job error.at passes
-    means fault.Server link = reached read s job error.at passes
-    means (fault.Changed root (change.Refused e)) link = files_means read s job error.at root e passes link
-    means (fault.Changed root (change.Text line)) link = absurd link
-    means (fault.Changed root change.Differs) link = absurd link
-    means fault.NoMemory link = reached read s job error.at passes
+    means : (kind : PhaseFault) → IsNoChange kind → UpgradeMeans read s job (fault_answer error.at kind)
+    means fault.Fs none = reached read s job error.at passes
+    means fault.Server none = reached read s job error.at passes
+    means (fault.Changed root found) none = absurd none
+    means fault.NoMemory none = reached read s job error.at passes
 
 -- want of memory in a phase that takes some, and in one that takes none
 pub takes_memory : {T : Type 0} (result : Result T PhaseError) (at : PhaseName) (before now : Counts) → LackRose at before now → IfErr result (λ error. error.at ≡ at) → IfErr result (IsLackCounted before now)
@@ -97,33 +83,10 @@ pub lacks_later : {T : Type 0} (result : Result T PhaseError) (a b c : Counts) �
 lacks_later (Ok value) a b c first lacked = tt
 lacks_later (Err error) a b c first lacked = λ lack. lacked_later a b c error.at first (lacked lack)
 
--- where nothing changed, and where a call was refused while files were linked
-pub no_change : (job : Job) (kind : PhaseFault) → IsNoChange kind → IsLinkChange job kind
-no_change job fault.Fs none = tt
-no_change job fault.Server none = tt
-no_change job (fault.Changed root found) none = absurd none
-no_change job fault.NoMemory none = tt
-
-pub none_changed : {T : Type 0} (job : Job) (result : Result T PhaseError) → IfErr result (λ error. IsNoChange error.kind) → IfErr result (λ error. IsLinkChange job error.kind)
-none_changed job (Ok value) none = tt
-none_changed job (Err error) none = no_change job error.kind none
-
 -- an error that is handed on
 pub handed_on : {T : Type 0} (P : PhaseError → Type 0) (result : Result T PhaseError) (error : PhaseError) → IsErrAnd result (λ e. e ≡ error) → P error → IfErr result P
 handed_on P (Ok value) error is holds = tt
 handed_on P (Err e) error is holds = subst P (sym is) holds
-
-pub link_change : {T : Type 0} (job : Job) (result : Result T PhaseError) → job.mode ≡ Link → IfErr result (λ error. IsOfFiles job.new error.kind) → IfErr result (λ error. IsLinkChange job error.kind)
-link_change job (Ok value) mode files = tt
-link_change job (Err error) mode files = by error.kind files
-  where
-    by : (kind : PhaseFault) → IsOfFiles job.new kind → IsLinkChange job kind
-    by fault.Fs files = tt
-    by fault.Server files = absurd files
-    by (fault.Changed root (change.Refused e)) files = (mode, files)
-    by (fault.Changed root (change.Text line)) files = absurd files
-    by (fault.Changed root change.Differs) files = absurd files
-    by fault.NoMemory files = tt
 
 not_early : (mode : Mode) (at : PhaseName) → IsLater mode at → IsEarly at → ⊥
 not_early mode Words later early = later

@@ -28,7 +28,6 @@ use Rattle.phases.specs.Faults.{files_error, IsInCluster}
 use Rattle.verdicts.specs.declared.verdict.Verdict.{Verdict}
 use Rattle.verdicts.specs.Verdicts.{IsVerdict, IsSafeVerdict}
 use Rattle.upgrade_run.specs.Causes.{IsLater, LackRose}
-use Rattle.upgrade_run.specs.Means.{IsRefusedLink}
 
 -- a server fails in Restore alone
 abbrev pub ServerFailsIn : PhaseError → PhaseFault → Type 0
@@ -44,11 +43,6 @@ pub record IsFailedIn (job : Job) (error : PhaseError) : Type 0 where
 -- a want of memory of a phase that takes none was counted
 abbrev pub IsLackCounted : Counts → Counts → PhaseError → Type 0
 IsLackCounted before now error = files_error (Some error.kind) ≡ Some OutOfMemory → LackRose error.at before now
-
--- the only change is a call that was refused in the new cluster while files were linked
-abbrev pub IsLinkChange : Job → PhaseFault → Type 0
-IsLinkChange job (fault.Changed root change) = IsRefusedLink job root change
-IsLinkChange job kind = Unit {0}
 
 -- The new cluster of x is the old one of s, upgraded, with the catalog that a server reads from the old one.
 pub record IsUpgraded (read : ReadsCatalog) (job : Job) (s x : FsState) : Type 0 where

@@ -5,9 +5,6 @@ use Rattle.fs_model.specs.State.{FsState}
 use Rattle.control_file.specs.declared.job.Job.{Job}
 use Rattle.accepted_words.specs.declared.line.Line.{Line}
 use Rattle.accepted_words.specs.declared.line.Line.TheVariants.{Upgrade, Report}
-use Rattle.control_file.specs.declared.modes.Mode.TheVariants.{Link}
-use Rattle.compat_checks.specs.declared.answer.Change.{Change}
-use Rattle.compat_checks.specs.declared.answer.Change.TheVariants as change
 use Rattle.phase_names.specs.declared.summary.Summary.{Summary}
 use Rattle.phase_names.specs.declared.names.PhaseName.{PhaseName}
 use Rattle.phase_names.specs.declared.names.PhaseName.TheVariants as phase
@@ -68,12 +65,7 @@ Reached read s job phase.Words = Unit {0}
 Reached read s job phase.Check = Unit {0}
 Reached read s job at = Passes read s job
 
--- a call was refused in the new cluster while files were linked: no other change is met
-abbrev pub IsRefusedLink : Job → Path → Change → Type 0
-IsRefusedLink job root (change.Refused error) = (job.mode ≡ Link) × (root ≡ job.new)
-IsRefusedLink job root change = ⊥
-
--- what an answer says of the state s that an upgrade began in
+-- what an answer says of the state s that an upgrade began in; nothing that the checks saw changes
 abbrev pub UpgradeMeans : Reader → FsState → Job → Answer → Type 0
 UpgradeMeans read s job (Done summary) = Passes read s job
 UpgradeMeans read s job Checked = Passes read s job
@@ -81,7 +73,6 @@ UpgradeMeans read s job (Refused refusal) = checks.IsFirst s job (readings_in re
 UpgradeMeans read s job (FsFault at) = Reached read s job at
 UpgradeMeans read s job (ServerFault at) = Reached read s job at
 UpgradeMeans read s job (NoMemory at) = Reached read s job at
-UpgradeMeans read s job (Moved root change) = Passes read s job × IsRefusedLink job root change
 UpgradeMeans read s job answer = ⊥
 
 -- what an answer says of the state s that a report looked at
@@ -96,12 +87,11 @@ Means read s (Upgrade job check) answer = UpgradeMeans read s job answer
 Means read s (Report old new) answer = ReportMeans s old new answer
 
 -- What an upgrade answers where nothing failed: the first condition that holds; where none does, that it is done, or with a check
--- alone that it passes; or want of memory, or a call that was refused while files were linked.
+-- alone that it passes; or want of memory.
 abbrev pub UpgradeCompletes : Reader → FsState → Job → Bool → Answer → Type 0
 UpgradeCompletes read s job check (Done summary) = (check ≡ false) × Passes read s job
 UpgradeCompletes read s job check Checked = (check ≡ true) × Passes read s job
 UpgradeCompletes read s job check (Refused refusal) = checks.IsFirst s job (readings_in read s job) refusal
-UpgradeCompletes read s job check (Moved root change) = Passes read s job × IsRefusedLink job root change
 UpgradeCompletes read s job check (NoMemory at) = Reached read s job at
 UpgradeCompletes read s job check answer = ⊥
 

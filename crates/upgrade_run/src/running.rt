@@ -84,7 +84,7 @@ fn answer<F: Fs, S: Server<F>>(
 /// Its contract, in the order of its clauses. A usage fault is at the first word that begins no accepted line, and else a line was
 /// read. After the answers that change nothing no state was changed, and before the words are read no call was made. `Refused`
 /// has the first condition that held in the state at the beginning; a phase behind the checks is told only where none held;
-/// `Moved` comes in link mode alone, for a call that was refused in the new cluster; a report has the verdict of that state.
+/// `Moved` never comes where the file system tells its states; a report has the verdict of that state.
 /// In every state of an upgrade, also where not all was on the disk at the beginning, names and bytes at no new place are as at
 /// the beginning, but for the later name of the old control file in link mode. Where all was on the disk at the beginning and
 /// anything was changed, every crash at any moment of the run leaves the old cluster as it was, but for that name, shares none
@@ -96,8 +96,8 @@ fn answer<F: Fs, S: Server<F>>(
 /// beginning. Each fault was counted in this run and comes in a phase that may meet it, want of memory while files are carried
 /// was the file system's, and `Done` comes only without `--check`, `Checked` only with it. Where neither the file system nor the
 /// server failed, the answer is the first condition that held, or `Done` or `Checked`, or a report's verdict, but for want of
-/// memory and a refused link. No failure is kept quiet, and where the file system doesn't fail none is told. The printed bytes
-/// are the answer's lines.
+/// memory. No failure is kept quiet, and where the file system doesn't fail none is told. The printed bytes are the answer's
+/// lines.
 pub fn run<F: Fs, S: Server<F>, K: Sink>(
     alloc: Global,
     words: &[String],

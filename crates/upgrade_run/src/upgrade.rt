@@ -11,7 +11,7 @@ ghost use Rattle.phases.specs.Faults.{fault_in, files_error, root_of, IsOfFiles,
 ghost use Rattle.phases.specs.Facts.{LinksKnownSince, IsChecked, IsRestored, IsStatused, IsTransferred};
 ghost use Rattle.upgrade_run.specs.Causes.{UpgradeHasCause, ServerCounted, failure_in};
 ghost use Rattle.upgrade_run.specs.Means.{LeavesAll, IfDone, HasBegun, UpgradeMeans};
-ghost use Rattle.upgrade_run.specs.Ends.{IsFailedIn, IsLackCounted, IsLinkChange, CrashesSafely, EndsFinished};
+ghost use Rattle.upgrade_run.specs.Ends.{IsFailedIn, IsLackCounted, CrashesSafely, EndsFinished};
 
 use crate::answers::{check_answer, phases_answer};
 use catalog_server::Server;
@@ -53,7 +53,7 @@ fn transfer<F: Fs>(fs: &mut F, mode: Mode, statused: Statused) -> Result<Transfe
     ensures fact { F.told fs.old ≡ true → (read : ReadsCatalog) (opening : Trail) → IsStatused read statused opening (F.trail fs.old) → IfOk result (λ next. IsTransferred read next opening (F.trail fs.new)) }
     ensures safe { F.told fs.old ≡ true → (read : ReadsCatalog) (opening : Trail) → IsStatused read statused opening (F.trail fs.old) → IsSafeSince statused.job opening (F.trail fs.new) }
     ensures links { F.told fs.old ≡ true → (read : ReadsCatalog) (opening : Trail) → IsStatused read statused opening (F.trail fs.old) → Settled opening.present → LinksKnownSince statused.job opening (F.trail fs.new) }
-    ensures unrefused { F.told fs.old ≡ true → (read : ReadsCatalog) (opening : Trail) → IsStatused read statused opening (F.trail fs.old) → IfErr result (λ error. IsLinkChange statused.job error.kind) }
+    ensures unrefused { F.told fs.old ≡ true → (read : ReadsCatalog) (opening : Trail) → IsStatused read statused opening (F.trail fs.old) → IfErr result (λ error. IsNoChange error.kind) }
     ensures fault { IfErr result (IsFailedIn statused.job) }
     ensures files { IfErr result (λ error. (side : ASide) × IsOfFiles (root_of statused.job side) error.kind) }
     ensures lacked { IfErr result (IsLackCounted (F.counts fs.old) (F.counts fs.new)) }
@@ -80,7 +80,7 @@ fn carry<F: Fs, S: Server<F>>(
     ensures frame { F.told fs.old ≡ true → (opening : Trail) → IsChecked S.catalog_of checked opening (F.trail fs.old) → IsFramed checked.job opening.present (F.trail fs.old).present → Since (IsFramed checked.job opening.present) (F.trail fs.old) (F.trail fs.new) }
     ensures crashes { F.told fs.old ≡ true → (opening : Trail) → IsChecked S.catalog_of checked opening (F.trail fs.old) → Settled opening.present → CrashesSafely S.catalog_of checked.job opening (F.trail fs.new) }
     ensures finished { F.told fs.old ≡ true → (opening : Trail) → IsChecked S.catalog_of checked opening (F.trail fs.old) → IfOk result (EndsFinished S.catalog_of checked.job opening.present (F.trail fs.new).present) }
-    ensures unrefused { F.told fs.old ≡ true → (opening : Trail) → IsChecked S.catalog_of checked opening (F.trail fs.old) → IfErr result (λ error. IsLinkChange checked.job error.kind) }
+    ensures unrefused { F.told fs.old ≡ true → (opening : Trail) → IsChecked S.catalog_of checked opening (F.trail fs.old) → IfErr result (λ error. IsNoChange error.kind) }
     ensures fault { IfErr result (IsFailedIn checked.job) }
     ensures lacked { IfErr result (IsLackCounted (F.counts fs.old) (F.counts fs.new)) }
     ensures cause { HasPhaseCause (F.firm fs.old) (F.counts fs.old) (F.counts fs.new) (S.counts server.old) (S.counts server.new) (fault_in result) }

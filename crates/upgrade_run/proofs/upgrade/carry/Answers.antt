@@ -1,9 +1,10 @@
 use Rattle.std.proofs.Common.{◌∙◌, sym, subst}
 use Rattle.control_file.specs.declared.job.Job.{Job}
 use Rattle.control_file.specs.declared.modes.Side.TheVariants.{New}
+use Rattle.phases.specs.Faults.{IsNoChange}
 use Rattle.upgrade_run.specs.Causes.{IsLater, LackRose}
-use Rattle.upgrade_run.specs.Ends.{IsFailedIn, IsLackCounted, IsLinkChange, CrashesSafely, EndsFinished}
-use Rattle.upgrade_run.proofs.Ending.{failed_files, no_change, handed_on, lacked_later}
+use Rattle.upgrade_run.specs.Ends.{IsFailedIn, IsLackCounted, CrashesSafely, EndsFinished}
+use Rattle.upgrade_run.proofs.Ending.{failed_files, handed_on, lacked_later}
 use Rattle.upgrade_run.proofs.Marking.{before_mark, with_mark, ends_finished}
 use Rattle.upgrade_run.proofs.Framing.{framed_then}
 use Rattle.upgrade_run.proofs.upgrade.carry.Goals as goal
@@ -94,22 +95,20 @@ returns-in-Err-clause-fault g c =
 
 pub returns-in_err-restored-clause-unrefused : goal.returns-in_err-restored-clause-unrefused
 returns-in_err-restored-clause-unrefused g c told opening fact =
-    handed_on (λ error. IsLinkChange c.args.checked.job error.kind) c.from_residual.result _ c.from_residual.ensures.1
-    (no_change c.args.checked.job _ (c.in_err-restored.ensures.unrefused told opening fact))
+    handed_on (λ error. IsNoChange error.kind) c.from_residual.result _ c.from_residual.ensures.1 (c.in_err-restored.ensures.unrefused told opening fact)
 
 pub returns-in_err-statused-clause-unrefused : goal.returns-in_err-statused-clause-unrefused
 returns-in_err-statused-clause-unrefused g c told opening fact =
     let restored = c.in_ok-restored.ensures.fact told opening fact in
-    handed_on (λ error. IsLinkChange c.args.checked.job error.kind) c.from_residual-in_err-statused.result _ c.from_residual-in_err-statused.ensures.1
-    (no_change c.args.checked.job _ (c.in_err-statused.ensures.unrefused (c.restore.ensures.told ∙ told) g.S.Server.catalog_of opening restored))
+    handed_on (λ error. IsNoChange error.kind) c.from_residual-in_err-statused.result _ c.from_residual-in_err-statused.ensures.1
+    (c.in_err-statused.ensures.unrefused (c.restore.ensures.told ∙ told) g.S.Server.catalog_of opening restored)
 
 pub returns-in_err-transferred-clause-unrefused : goal.returns-in_err-transferred-clause-unrefused
 returns-in_err-transferred-clause-unrefused g c told opening fact =
     let told_1 = c.restore.ensures.told ∙ told in
     let statused = c.in_ok-statused.ensures.fact told_1 g.S.Server.catalog_of opening (c.in_ok-restored.ensures.fact told opening fact) in
-    let same = c.in_ok-statused.ensures.job ∙ c.in_ok-restored.ensures.job in
-    handed_on (λ error. IsLinkChange c.args.checked.job error.kind) c.from_residual-in_err-transferred.result _ c.from_residual-in_err-transferred.ensures.1
-    (subst (λ (job : Job). IsLinkChange job c.in_err-transferred.field-0.0.kind) same (c.in_err-transferred.ensures.unrefused (c.prepare.ensures.told ∙ told_1) g.S.Server.catalog_of opening statused))
+    handed_on (λ error. IsNoChange error.kind) c.from_residual-in_err-transferred.result _ c.from_residual-in_err-transferred.ensures.1
+    (c.in_err-transferred.ensures.unrefused (c.prepare.ensures.told ∙ told_1) g.S.Server.catalog_of opening statused)
 
 pub returns-in-Err-clause-unrefused : goal.returns-in-Err-clause-unrefused
 returns-in-Err-clause-unrefused g c told opening fact =
@@ -117,7 +116,7 @@ returns-in-Err-clause-unrefused g c told opening fact =
     let told_2 = c.prepare.ensures.told ∙ told_1 in
     let statused = c.in_ok-statused.ensures.fact told_1 g.S.Server.catalog_of opening (c.in_ok-restored.ensures.fact told opening fact) in
     let transferred = c.in_ok-transferred.ensures.fact told_2 g.S.Server.catalog_of opening statused in
-    no_change c.args.checked.job c.in-Err.error.kind (c.in-Err.ensures.unrefused (c.transfer.ensures.told ∙ told_2) g.S.Server.catalog_of opening transferred)
+    c.in-Err.ensures.unrefused (c.transfer.ensures.told ∙ told_2) g.S.Server.catalog_of opening transferred
 
 pub returns-in_err-restored-clause-lacked : goal.returns-in_err-restored-clause-lacked
 returns-in_err-restored-clause-lacked g c =

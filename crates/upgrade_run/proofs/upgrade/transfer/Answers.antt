@@ -5,9 +5,9 @@ use Rattle.control_file.specs.declared.modes.Side.TheVariants.{New}
 use Rattle.phase_names.specs.declared.names.PhaseName.TheVariants.{Disable, Transfer}
 use Rattle.phase_facts.specs.Held.{IsSafeSince}
 use Rattle.phases.specs.Facts.{LinksKnownSince}
-use Rattle.phases.specs.Faults.{root_of, IsOfFiles}
-use Rattle.upgrade_run.specs.Ends.{IsFailedIn, IsLackCounted, IsLinkChange}
-use Rattle.upgrade_run.proofs.Ending.{failed_in_files, files_in, no_change, none_changed, handed_on, link_change, takes_none, takes_none_at, lacks_later}
+use Rattle.phases.specs.Faults.{root_of, IsOfFiles, IsNoChange}
+use Rattle.upgrade_run.specs.Ends.{IsFailedIn, IsLackCounted}
+use Rattle.upgrade_run.proofs.Ending.{failed_in_files, files_in, handed_on, takes_none, takes_none_at, lacks_later}
 use Rattle.upgrade_run.proofs.Framing.{framed_then}
 use Rattle.upgrade_run.proofs.upgrade.transfer.Goals as goal
 
@@ -49,16 +49,15 @@ returns-in_ok-disable-in-Link-clause-files g c =
     subst (λ (job : Job). IfErr c.link.result (λ error. (of : Side) × IsOfFiles (root_of job of) error.kind)) job (files_in c.link.result c.in_ok-disable-in-Link.field-0.job New c.link.ensures.fault)
 
 pub returns-in-Copy-clause-unrefused : goal.returns-in-Copy-clause-unrefused
-returns-in-Copy-clause-unrefused g c told read opening fact = none_changed c.args.statused.job c.copy.result (c.copy.ensures.unrefused told read opening fact)
+returns-in-Copy-clause-unrefused g c told read opening fact = c.copy.ensures.unrefused told read opening fact
 
 pub returns-in_err-disable-in-Link-clause-unrefused : goal.returns-in_err-disable-in-Link-clause-unrefused
 returns-in_err-disable-in-Link-clause-unrefused g c told read opening fact =
-    handed_on (λ error. IsLinkChange c.args.statused.job error.kind) c.from_residual.result _ c.from_residual.ensures.1 (no_change c.args.statused.job _ (c.in_err-disable-in-Link.ensures.unrefused told))
+    handed_on (λ error. IsNoChange error.kind) c.from_residual.result _ c.from_residual.ensures.1 (c.in_err-disable-in-Link.ensures.unrefused told)
 
 pub returns-in_ok-disable-in-Link-clause-unrefused : goal.returns-in_ok-disable-in-Link-clause-unrefused
 returns-in_ok-disable-in-Link-clause-unrefused g c told read opening fact =
-    let disabled = c.in_ok-disable-in-Link.ensures.fact told read opening fact in
-    subst (λ (job : Job). IfErr c.link.result (λ error. IsLinkChange job error.kind)) c.in_ok-disable-in-Link.ensures.job (link_change c.in_ok-disable-in-Link.field-0.job c.link.result disabled.mode c.link.ensures.fault)
+    c.link.ensures.unrefused (c.disable.ensures.told ∙ told) read opening (c.in_ok-disable-in-Link.ensures.fact told read opening fact)
 
 pub returns-in-Copy-clause-lacked : goal.returns-in-Copy-clause-lacked
 returns-in-Copy-clause-lacked g c = takes_none c.copy.result Transfer (g.F.Fs.firm c.args.fs.now) (g.F.Fs.counts c.args.fs.now) (g.F.Fs.counts c.copy.new.fs) (λ rose. rose) c.copy.ensures.phase c.copy.ensures.cause

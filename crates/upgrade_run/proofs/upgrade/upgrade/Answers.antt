@@ -1,10 +1,10 @@
-use Rattle.std.proofs.Common.{◌∙◌, false, IfErr, sym, subst}
+use Rattle.std.proofs.Common.{◌∙◌, false, sym, subst}
 use Rattle.fs_model.specs.Trail.{HasCause}
 use Rattle.control_file.specs.declared.job.Job.{Job}
 use Rattle.phases.specs.Faults.{fault_in}
 use Rattle.upgrade_run.specs.Causes.{UpgradeHasCause, ServerCounted, failure_in}
 use Rattle.upgrade_run.specs.Means.{LeavesAll, IfDone, HasBegun, UpgradeMeans}
-use Rattle.upgrade_run.specs.Ends.{IsLinkChange, CrashesSafely, EndsFinished}
+use Rattle.upgrade_run.specs.Ends.{CrashesSafely, EndsFinished}
 use Rattle.upgrade_run.proofs.Checking.{check_begun, check_means, check_leaves, check_cause, check_counts, check_server}
 use Rattle.upgrade_run.proofs.Ending.{phases_begun, phases_means, phases_cause, phases_finished, leaves_undone, lacks_later, after_check}
 use Rattle.upgrade_run.specs.Answers.{phases_answer}
@@ -83,9 +83,9 @@ returns-in-Ok-clause-means g c told =
     let old = g.F.Fs.trail c.args.fs.now in
     let fact = opened g.S.Server.catalog_of old.present c.args.job c.in-Ok.passed (c.requires.well_formed told) (c.in-Ok.ensures.nothing told) (c.in-Ok.ensures.read told) c.bootstrap.ensures.valid in
     let later = checked_later g.S.Server.catalog_of c.new-checked.result old _ (c.new-checked.ensures.fact g.S.Server.catalog_of old fact) (c.in-Ok.ensures.unchanged told) in
-    let link = subst (λ (job : Job). IfErr c.carry.result (λ error. IsLinkChange job error.kind)) c.new-checked.ensures.job (c.carry.ensures.unrefused (c.check.ensures.told ∙ told) old later) in
+    let none = c.carry.ensures.unrefused (c.check.ensures.told ∙ told) old later in
     subst (UpgradeMeans g.S.Server.catalog_of old.present c.args.job) (sym c.phases_answer.ensures)
-    (phases_means g.S.Server.catalog_of old.present c.args.job c.carry.result link (c.in-Ok.ensures.passes told))
+    (phases_means g.S.Server.catalog_of old.present c.args.job c.carry.result none (c.in-Ok.ensures.passes told))
 
 pub returns-in-Ok-clause-own_cause : goal.returns-in-Ok-clause-own_cause
 returns-in-Ok-clause-own_cause g c =
