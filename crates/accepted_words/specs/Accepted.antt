@@ -2,18 +2,19 @@
 use Rattle.std.specs.Prelude.{◌+◌, ◌<◌, ◌≤◌, ℕ, List, ◌++◌, length, take}
 use Rattle.command_words.specs.declared.command.Command.{Command}
 use Rattle.command_words.specs.declared.command.Command.TheVariants as command
-use Rattle.command_words.specs.Words.{Word, AsksByChoices}
+use Rattle.command_words.specs.Words.{Word, Accepts}
 use Rattle.accepted_words.specs.declared.line.Line.{Line}
-use Rattle.accepted_words.specs.declared.line.Line.TheVariants.{Upgrade, Report}
+use Rattle.accepted_words.specs.declared.line.Line.TheVariants.{Upgrade, Report, SelfTest}
 
--- a line as a command among all
+-- a line as a command
 abbrev pub as_command : Line → Command
 as_command (Upgrade job check) = command.Upgrade job check
 as_command (Report old new) = command.Report old new
+as_command (SelfTest tables mode) = command.Selftest tables mode
 
--- The words spell the choices of an upgrade or a report. The self-test isn't there yet.
+-- the words spell the choices of an upgrade or a report, or are those of a self-test
 abbrev pub Asks : List Word → Line → Type 0
-Asks words line = AsksByChoices words (as_command line)
+Asks words line = Accepts words (as_command line)
 
 -- the words begin an accepted list
 abbrev pub Begins : List Word → Type 0

@@ -1,5 +1,5 @@
-//! The command lines that a run accepts: an upgrade or a report. The self-test isn't there yet, so that its words are no
-//! accepted line and fault at the first of them.
+//! The command lines that a run accepts: an upgrade, a report or a self-test. They are those of `command_words`, as the lines
+//! that a run goes by.
 #![tactic(auto)]
 
 mod line;

@@ -33,6 +33,7 @@ pub(crate) fn answer_at(n: u32) -> Option<Answer> {
         17 => Some(Answer::NoMemory(PhaseName::Transfer)),
         18 => Some(Answer::NoMemory(PhaseName::Make)),
         19 => Some(Answer::NoMemory(PhaseName::Count)),
+        20 => Some(Answer::TestFailed),
         _ => None,
     }
 }
@@ -56,7 +57,7 @@ pub(crate) fn changed_at(n: u32) -> Option<Change> {
 }
 
 /// The place of an answer, what became of its lines, and the status that is wanted.
-pub(crate) static WANTED: [(u32, Printed, u8); 14] = [
+pub(crate) static WANTED: [(u32, Printed, u8); 16] = [
     (0, Printed::Whole, 0),
     (0, Printed::SinkFailed, 5),
     (0, Printed::NoMemory, 6),
@@ -71,4 +72,6 @@ pub(crate) static WANTED: [(u32, Printed, u8); 14] = [
     (13, Printed::Whole, 4),
     (14, Printed::SinkFailed, 4),
     (15, Printed::Whole, 6),
+    (20, Printed::Whole, 8),
+    (20, Printed::SinkFailed, 8),
 ];

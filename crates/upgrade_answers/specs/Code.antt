@@ -1,7 +1,7 @@
 -- The exit statuses.
 use Rattle.std.specs.Prelude.{ℕ}
 use Rattle.upgrade_answers.specs.declared.answer.Answer.{Answer}
-use Rattle.upgrade_answers.specs.declared.answer.Answer.TheVariants.{Done, Checked, Reported, Tested, Usage, Refused, FsFault, ServerFault, Moved, NoMemory}
+use Rattle.upgrade_answers.specs.declared.answer.Answer.TheVariants.{Done, Checked, Reported, Tested, TestFailed, Usage, Refused, FsFault, ServerFault, Moved, NoMemory}
 use Rattle.upgrade_answers.specs.declared.answer.Printed.{Printed}
 use Rattle.upgrade_answers.specs.declared.answer.Printed.TheVariants as printed
 
@@ -22,3 +22,4 @@ code_of (FsFault phase) lines = 3
 code_of (ServerFault phase) lines = 4
 code_of (NoMemory phase) lines = 6
 code_of (Moved root change) lines = 7
+code_of TestFailed lines = 8

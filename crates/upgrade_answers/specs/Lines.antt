@@ -22,7 +22,7 @@ use Rattle.upgrade_answers.specs.declared.answer.Verdict.{Verdict}
 use Rattle.upgrade_answers.specs.declared.answer.Verdict.TheVariants as verdict
 use Rattle.phase_names.specs.declared.summary.Summary.{Summary}
 use Rattle.upgrade_answers.specs.declared.answer.Answer.{Answer}
-use Rattle.upgrade_answers.specs.declared.answer.Answer.TheVariants.{Done, Checked, Reported, Tested, Usage, Refused, FsFault, ServerFault, Moved, NoMemory}
+use Rattle.upgrade_answers.specs.declared.answer.Answer.TheVariants.{Done, Checked, Reported, Tested, TestFailed, Usage, Refused, FsFault, ServerFault, Moved, NoMemory}
 use Rattle.upgrade_answers.specs.declared.answer.Printed.{Printed}
 use Rattle.upgrade_answers.specs.declared.answer.Printed.TheVariants as printed
 
@@ -143,6 +143,7 @@ lines_of (Done summary) = codes "checks: ok\n" ++ counted_lines summary ++ codes
 lines_of Checked = codes "checks: ok\n"
 lines_of (Reported verdict) = codes "report: " ++ verdict_text verdict ++ codes "\n"
 lines_of (Tested summary rows) = counted_lines summary ++ labelled (codes "rows: ") rows ++ codes "\nselftest: done\n"
+lines_of TestFailed = codes "selftest: failed\n"
 lines_of (Usage position) = labelled (codes "usage fault at word ") position ++ codes "\n"
 lines_of (Refused refusal) = refusal_line refusal
 lines_of (FsFault phase) = codes "file fault in " ++ phase_text phase ++ codes "\n"

@@ -34,6 +34,8 @@ pub enum Answer {
     Reported(Verdict),
     /// A made pair of clusters was upgraded in memory; the last is the number of rows that were read in the new one.
     Tested(Summary, u64),
+    /// The upgrade of a made pair of clusters in memory didn't end as it has to, or another number of rows was read.
+    TestFailed,
     /// The words are no accepted command line, from this position on.
     Usage(u64),
     /// A condition of the checks holds. Nothing was changed.
@@ -78,8 +80,8 @@ fn printed_code(printed: Printed) -> u8
 
 impl Outcome {
     /// The exit status: 0 for Done, Checked, Reported and Tested, 1 Refused, 2 Usage, 3 a file fault, 4 a fault of the
-    /// server, 6 want of memory, 7 Moved; where it would be 0 and the lines were not printed, 5 where the sink failed and
-    /// 6 where it lacked memory.
+    /// server, 6 want of memory, 7 Moved, 8 TestFailed; where it would be 0 and the lines were not printed, 5 where the sink
+    /// failed and 6 where it lacked memory.
     pub fn code(&self) -> u8
         ensures { result ≡ code_of self.now.answer self.now.printed }
     {
@@ -93,6 +95,7 @@ impl Outcome {
             Answer::ServerFault(_) => 4,
             Answer::NoMemory(_) => 6,
             Answer::Moved(_, _) => 7,
+            Answer::TestFailed => 8,
         }
     }
 }

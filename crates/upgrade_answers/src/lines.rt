@@ -119,6 +119,7 @@ fn put_answer<K: Sink>(out: &mut K, answer: &Answer) -> Result<(), SinkError>
         Answer::Checked => out.put(b"checks: ok\n"),
         Answer::Reported(verdict) => put_report(out, *verdict),
         Answer::Tested(summary, rows) => put_tested(out, *summary, *rows),
+        Answer::TestFailed => out.put(b"selftest: failed\n"),
         Answer::Usage(position) => put_usage(out, *position),
         Answer::Refused(refusal) => put_refusal(out, refusal),
         Answer::FsFault(phase) => put_three(out, b"file fault in ", phase_text(*phase), b"\n"),

@@ -6,10 +6,10 @@ use Rattle.fs_model.specs.Trail.{Counts, Rose}
 use Rattle.control_file.specs.declared.job.Job.{Job}
 use Rattle.catalog_server.specs.Answers.{ServerCounts}
 use Rattle.accepted_words.specs.declared.line.Line.{Line}
-use Rattle.accepted_words.specs.declared.line.Line.TheVariants.{Upgrade, Report}
+use Rattle.accepted_words.specs.declared.line.Line.TheVariants.{Upgrade, Report, SelfTest}
 use Rattle.upgrade_checks.specs.Findings.{Reader}
 use Rattle.upgrade_answers.specs.declared.answer.Answer.{Answer}
-use Rattle.upgrade_answers.specs.declared.answer.Answer.TheVariants.{Done, Checked, Reported, Tested, Usage, Refused, FsFault, ServerFault, Moved, NoMemory}
+use Rattle.upgrade_answers.specs.declared.answer.Answer.TheVariants.{Done, Checked, Reported, Tested, TestFailed, Usage, Refused, FsFault, ServerFault, Moved, NoMemory}
 use Rattle.upgrade_run.specs.Causes.{UpgradeHasCause, ReportHasCause, HasOwnCause}
 use Rattle.upgrade_run.specs.Means.{UpgradeMeans, ReportMeans, Means, UpgradeCompletes, ReportCompletes, Completes}
 
@@ -19,6 +19,7 @@ module _ (before now : Counts) (server_before server_now : ServerCounts) (no_fau
   upgrade_completes job check Checked means cause = (cause, means)
   upgrade_completes job check (Reported verdict) means cause = means
   upgrade_completes job check (Tested summary rows) means cause = means
+  upgrade_completes job check TestFailed means cause = means
   upgrade_completes job check (Usage position) means cause = means
   upgrade_completes job check (Refused refusal) means cause = means
   upgrade_completes job check (FsFault at) means cause = no_fault cause.1
@@ -31,6 +32,7 @@ module _ (before now : Counts) (server_before server_now : ServerCounts) (no_fau
   report_completes old new Checked means cause = means
   report_completes old new (Reported verdict) means cause = means
   report_completes old new (Tested summary rows) means cause = means
+  report_completes old new TestFailed means cause = means
   report_completes old new (Usage position) means cause = means
   report_completes old new (Refused refusal) means cause = means
   report_completes old new (FsFault at) means cause = no_fault cause.1
@@ -41,3 +43,4 @@ module _ (before now : Counts) (server_before server_now : ServerCounts) (no_fau
   pub completes : (line : Line) (answer : Answer) → Means read s line answer → HasOwnCause line answer before now server_before server_now → Completes read s line answer
   completes (Upgrade job check) answer means cause = upgrade_completes job check answer means cause
   completes (Report old new) answer means cause = report_completes old new answer means cause
+  completes (SelfTest tables mode) answer means cause = means

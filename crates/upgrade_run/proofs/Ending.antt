@@ -23,7 +23,7 @@ use Rattle.phases.specs.Faults.{fault_in, files_error, root_of, IsInCluster, IsO
 use Rattle.upgrade_checks.specs.Findings.{Reader}
 use Rattle.upgrade_checks.specs.Answers.{HasServerPart}
 use Rattle.upgrade_answers.specs.declared.answer.Answer.{Answer}
-use Rattle.upgrade_answers.specs.declared.answer.Answer.TheVariants.{Done, Checked, Reported, Tested, Usage, Refused, FsFault, ServerFault, Moved, NoMemory}
+use Rattle.upgrade_answers.specs.declared.answer.Answer.TheVariants.{Done, Checked, Reported, Tested, TestFailed, Usage, Refused, FsFault, ServerFault, Moved, NoMemory}
 use Rattle.upgrade_run.specs.Answers.{phases_answer, fault_answer, files_answer}
 use Rattle.upgrade_run.specs.Causes.{IsLater, LackRose, IsRoot, UpgradeHasCause, ServerCounted, failure_in}
 use Rattle.upgrade_run.specs.Means.{Passes, Reached, LeavesAll, IsEarly, IfDone, HasBegun, UpgradeMeans}
@@ -199,6 +199,7 @@ leaves_undone (Done summary) P leaves = absurd leaves
 leaves_undone Checked P leaves = tt
 leaves_undone (Reported verdict) P leaves = tt
 leaves_undone (Tested summary rows) P leaves = tt
+leaves_undone TestFailed P leaves = tt
 leaves_undone (Usage position) P leaves = tt
 leaves_undone (Refused refusal) P leaves = tt
 leaves_undone (FsFault at) P leaves = tt

@@ -6,3 +6,4 @@ pub mod Opening
 pub mod Marking
 pub mod Completing
 pub mod Framing
+pub mod Testing

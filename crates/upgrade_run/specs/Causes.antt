@@ -11,11 +11,11 @@ use Rattle.catalog_server.specs.Answers.{ServerCounts}
 use Rattle.compat_checks.specs.declared.answer.Change.{Change}
 use Rattle.compat_checks.specs.declared.answer.Change.TheVariants as change
 use Rattle.accepted_words.specs.declared.line.Line.{Line}
-use Rattle.accepted_words.specs.declared.line.Line.TheVariants.{Upgrade, Report}
+use Rattle.accepted_words.specs.declared.line.Line.TheVariants.{Upgrade, Report, SelfTest}
 use Rattle.phase_names.specs.declared.names.PhaseName.{PhaseName}
 use Rattle.phase_names.specs.declared.names.PhaseName.TheVariants as phase
 use Rattle.upgrade_answers.specs.declared.answer.Answer.{Answer}
-use Rattle.upgrade_answers.specs.declared.answer.Answer.TheVariants.{Done, Checked, Reported, Refused, FsFault, ServerFault, Moved, NoMemory}
+use Rattle.upgrade_answers.specs.declared.answer.Answer.TheVariants.{Done, Checked, Reported, Tested, TestFailed, Refused, FsFault, ServerFault, Moved, NoMemory}
 
 -- The phases behind the checks in which a file system may fail or memory may lack: the old cluster is disabled in link mode alone.
 abbrev pub IsLater : Mode → PhaseName → Type 0
@@ -75,9 +75,17 @@ ReportHasCause old (NoMemory at) before now = (at ≡ phase.Words) ⊎ (at ≡ p
 ReportHasCause old (Moved root (change.Refused error)) before now = (root ≡ old) × WasRefused error before now
 ReportHasCause old answer before now = ⊥
 
+-- the same for a self-test: a phase of its own, or one of an upgrade
+abbrev pub TestHasCause : Mode → Answer → Type 0
+TestHasCause mode (Tested summary rows) = Unit {0}
+TestHasCause mode TestFailed = Unit {0}
+TestHasCause mode (NoMemory at) = (at ≡ phase.Words) ⊎ (at ≡ phase.Make) ⊎ (at ≡ phase.Count) ⊎ IsOfUpgrade mode false at
+TestHasCause mode answer = ⊥
+
 abbrev pub HasOwnCause : Line → Answer → Counts → Counts → ServerCounts → ServerCounts → Type 0
 HasOwnCause (Upgrade job check) answer before now server_before server_now = UpgradeHasCause job check answer before now server_before server_now
 HasOwnCause (Report old new) answer before now server_before server_now = ReportHasCause old answer before now
+HasOwnCause (SelfTest tables mode) answer before now server_before server_now = TestHasCause mode answer
 
 -- the failure of the file system that an answer tells
 abbrev pub failure_in : Answer → Option FsError

@@ -4,7 +4,7 @@ use Rattle.fs_model.specs.Names.{Path}
 use Rattle.fs_model.specs.State.{FsState}
 use Rattle.control_file.specs.declared.job.Job.{Job}
 use Rattle.accepted_words.specs.declared.line.Line.{Line}
-use Rattle.accepted_words.specs.declared.line.Line.TheVariants.{Upgrade, Report}
+use Rattle.accepted_words.specs.declared.line.Line.TheVariants.{Upgrade, Report, SelfTest}
 use Rattle.phase_names.specs.declared.summary.Summary.{Summary}
 use Rattle.phase_names.specs.declared.names.PhaseName.{PhaseName}
 use Rattle.phase_names.specs.declared.names.PhaseName.TheVariants as phase
@@ -13,7 +13,7 @@ use Rattle.verdicts.specs.Verdicts.{IsVerdict}
 use Rattle.upgrade_checks.specs.Findings.{Reader, readings_in}
 use Rattle.upgrade_checks.specs.Passing as checks
 use Rattle.upgrade_answers.specs.declared.answer.Answer.{Answer}
-use Rattle.upgrade_answers.specs.declared.answer.Answer.TheVariants.{Done, Checked, Reported, Tested, Usage, Refused, FsFault, ServerFault, Moved, NoMemory}
+use Rattle.upgrade_answers.specs.declared.answer.Answer.TheVariants.{Done, Checked, Reported, Tested, TestFailed, Usage, Refused, FsFault, ServerFault, Moved, NoMemory}
 use Rattle.upgrade_run.specs.Answers.{verdict_as}
 
 -- no refusal's condition holds, as the server reads both clusters
@@ -33,6 +33,7 @@ LeavesAll (Done summary) = ⊥
 LeavesAll Checked = Unit {0}
 LeavesAll (Reported verdict) = Unit {0}
 LeavesAll (Tested summary rows) = Unit {0}
+LeavesAll TestFailed = Unit {0}
 LeavesAll (Usage position) = Unit {0}
 LeavesAll (Refused refusal) = Unit {0}
 LeavesAll (FsFault at) = IsEarly at
@@ -82,9 +83,17 @@ ReportMeans s old new (FsFault at) = Unit {0}
 ReportMeans s old new (NoMemory at) = Unit {0}
 ReportMeans s old new answer = ⊥
 
+-- the answers of a self-test
+abbrev pub TestMeans : Answer → Type 0
+TestMeans (Tested summary rows) = Unit {0}
+TestMeans TestFailed = Unit {0}
+TestMeans (NoMemory at) = Unit {0}
+TestMeans answer = ⊥
+
 abbrev pub Means : Reader → FsState → Line → Answer → Type 0
 Means read s (Upgrade job check) answer = UpgradeMeans read s job answer
 Means read s (Report old new) answer = ReportMeans s old new answer
+Means read s (SelfTest tables mode) answer = TestMeans answer
 
 -- What an upgrade answers where nothing failed: the first condition that holds; where none does, that it is done, or with a check
 -- alone that it passes; or want of memory.
@@ -104,3 +113,4 @@ ReportCompletes s old new answer = ⊥
 abbrev pub Completes : Reader → FsState → Line → Answer → Type 0
 Completes read s (Upgrade job check) answer = UpgradeCompletes read s job check answer
 Completes read s (Report old new) answer = ReportCompletes s old new answer
+Completes read s (SelfTest tables mode) answer = TestMeans answer

@@ -4,7 +4,9 @@
 
 mod answers;
 mod report;
+mod rows;
 mod running;
+mod selftest;
 mod upgrade;
 
 pub use running::run;

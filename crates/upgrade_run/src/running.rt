@@ -3,6 +3,7 @@ ghost use Rattle.std.specs.Prelude.{◌≡◌, ◌⊎◌, ◌++◌, ℕ, Bool, t
 ghost use Rattle.fs_model.specs.Crash.{Settled};
 ghost use Rattle.fs_model.specs.Trail.{Since, Unchanged, Rose, HasCause};
 ghost use Rattle.control_file.specs.declared.job.Job.{Job as AJob};
+ghost use Rattle.control_file.specs.declared.modes.Mode.{Mode as AMode};
 ghost use Rattle.command_words.specs.Words.{texts};
 ghost use Rattle.phase_frames.specs.Framed.{IsFramed};
 ghost use Rattle.accepted_words.specs.declared.line.Line.{Line as ALine};
@@ -12,8 +13,11 @@ ghost use Rattle.upgrade_answers.specs.Lines.{lines_of, PrintedRose};
 ghost use Rattle.upgrade_run.specs.Causes.{HasOwnCause, ServerCounted, failure_in};
 ghost use Rattle.upgrade_run.specs.Means.{LeavesAll, IfDone, IsUsage, IsFsFault, HasBegun, Means, Completes};
 ghost use Rattle.upgrade_run.specs.Ends.{CrashesSafely, EndsFinished};
+ghost use Rattle.upgrade_run.specs.SelfTests.{IfTested};
+ghost use Rattle.upgrade_run.specs.Made.{IsTested};
 
 use crate::report::report;
+use crate::selftest::self_test;
 use crate::upgrade::{check_only, upgrade};
 use accepted_words::{Line, read_line};
 use catalog_server::Server;
@@ -33,6 +37,8 @@ fn answer_line<F: Fs, S: Server<F>>(alloc: Global, fs: &mut F, server: &mut S, l
     ensures frame { F.told fs.old ≡ true → (job : AJob) (check : Bool) → line ≡ asked.Upgrade job check → Since (IsFramed job (F.trail fs.old).present) (F.trail fs.old) (F.trail fs.new) }
     ensures crashes { F.told fs.old ≡ true → Settled (F.trail fs.old).present → (LeavesAll result → ⊥) → (job : AJob) (check : Bool) → line ≡ asked.Upgrade job check → CrashesSafely S.catalog_of job (F.trail fs.old) (F.trail fs.new) }
     ensures finished { F.told fs.old ≡ true → (job : AJob) (check : Bool) → line ≡ asked.Upgrade job check → IfDone result (EndsFinished S.catalog_of job (F.trail fs.old).present (F.trail fs.new).present) }
+    ensures apart { (tables : ℕ) (mode : AMode) → line ≡ asked.SelfTest tables mode → (F.trail fs.new ≡ F.trail fs.old) × (F.counts fs.new ≡ F.counts fs.old) × (S.counts server.new ≡ S.counts server.old) }
+    ensures tested { (tables : ℕ) (mode : AMode) → line ≡ asked.SelfTest tables mode → IfTested result (IsTested tables mode) }
     ensures own_cause { HasOwnCause line result (F.counts fs.old) (F.counts fs.new) (S.counts server.old) (S.counts server.new) }
     ensures counts { HasCause (F.firm fs.old) (F.counts fs.old) (F.counts fs.new) (failure_in result) }
     ensures server { ServerCounted (S.counts server.old) (S.counts server.new) result }
@@ -43,6 +49,7 @@ fn answer_line<F: Fs, S: Server<F>>(alloc: Global, fs: &mut F, server: &mut S, l
         Line::Upgrade(job, false) => upgrade(alloc, server, fs, job),
         Line::Upgrade(job, true) => check_only(alloc, server, fs, &job),
         Line::Report(old, new) => report(alloc, fs, old, &new),
+        Line::SelfTest(tables, mode) => self_test(alloc, tables, mode),
     }
 }
 
@@ -63,6 +70,8 @@ fn answer<F: Fs, S: Server<F>>(
     ensures frame { F.told fs.old ≡ true → (job : AJob) (check : Bool) → Asks (texts words.now) (asked.Upgrade job check) → Since (IsFramed job (F.trail fs.old).present) (F.trail fs.old) (F.trail fs.new) }
     ensures crashes { F.told fs.old ≡ true → Settled (F.trail fs.old).present → (LeavesAll result → ⊥) → (job : AJob) (check : Bool) → Asks (texts words.now) (asked.Upgrade job check) → CrashesSafely S.catalog_of job (F.trail fs.old) (F.trail fs.new) }
     ensures finished { F.told fs.old ≡ true → (job : AJob) (check : Bool) → Asks (texts words.now) (asked.Upgrade job check) → IfDone result (EndsFinished S.catalog_of job (F.trail fs.old).present (F.trail fs.new).present) }
+    ensures apart { (tables : ℕ) (mode : AMode) → Asks (texts words.now) (asked.SelfTest tables mode) → (F.trail fs.new ≡ F.trail fs.old) × (F.counts fs.new ≡ F.counts fs.old) × (S.counts server.new ≡ S.counts server.old) }
+    ensures tested { (tables : ℕ) (mode : AMode) → Asks (texts words.now) (asked.SelfTest tables mode) → IfTested result (IsTested tables mode) }
     ensures own_cause { (line : ALine) → Asks (texts words.now) line → HasOwnCause line result (F.counts fs.old) (F.counts fs.new) (S.counts server.old) (S.counts server.new) }
     ensures counts { HasCause (F.firm fs.old) (F.counts fs.old) (F.counts fs.new) (failure_in result) }
     ensures server { ServerCounted (S.counts server.old) (S.counts server.new) result }
@@ -76,10 +85,11 @@ fn answer<F: Fs, S: Server<F>>(
 
 /// Does what the words ask for, and prints the answer's lines.
 ///
-/// The words are those of an upgrade, in copy or link mode and with `--check` or without, or of a report. An upgrade tests all
-/// conditions of `Refusal` first, in their order; where one holds, the first is answered and nothing is changed. Then the new
-/// cluster gets the old one's schema, transaction status, counters and relation files, and is marked once all is on the disk.
-/// A report tells where an upgrade stands.
+/// The words are those of an upgrade, in copy or link mode and with `--check` or without, of a report, or of a self-test. An
+/// upgrade tests all conditions of `Refusal` first, in their order; where one holds, the first is answered and nothing is
+/// changed. Then the new cluster gets the old one's schema, transaction status, counters and relation files, and is marked once
+/// all is on the disk. A report tells where an upgrade stands. A self-test upgrades a made pair of clusters in memory, and
+/// counts the rows of the new one.
 ///
 /// Its contract, in the order of its clauses. A usage fault is at the first word that begins no accepted line, and else a line was
 /// read. After the answers that change nothing no state was changed, and before the words are read no call was made. `Refused`
@@ -89,15 +99,15 @@ fn answer<F: Fs, S: Server<F>>(
 /// the beginning, but for the later name of the old control file in link mode. Where all was on the disk at the beginning and
 /// anything was changed, every crash at any moment of the run leaves the old cluster as it was, but for that name, shares none
 /// of its files while it has its control file, and either has no mark or an upgraded cluster; a report on it finds no file
-/// shared with a cluster that can be started and no control file missing, and in link mode naming the control file back gives the
-/// old cluster as it was. After `Done` the new cluster is the
-/// old one, upgraded, the summary counts its databases, its tables and the files of relations that are carried from the
-/// beginning, the mark stands, and all is on the disk if it was at the
-/// beginning. Each fault was counted in this run and comes in a phase that may meet it, want of memory while files are carried
-/// was the file system's, and `Done` comes only without `--check`, `Checked` only with it. Where neither the file system nor the
-/// server failed, the answer is the first condition that held, or `Done` or `Checked`, or a report's verdict, but for want of
-/// memory. No failure is kept quiet, and where the file system doesn't fail none is told. The printed bytes are the answer's
-/// lines.
+/// shared with a cluster that can be started and no control file missing, and in link mode naming the control file back gives
+/// the old cluster as it was. After `Done` the new cluster is the old one, upgraded, the summary counts its databases, its tables
+/// and the files of relations that are carried from the beginning, the mark stands, and all is on the disk if it was at the
+/// beginning. A self-test makes no call of the file system and of the server; `Tested` has the numbers of the pair, and an
+/// upgrade of it has ended so in a state in which these rows are seen. Each fault was counted in this run and comes in a phase
+/// that may meet it, want of memory while files are carried was the file system's, and `Done` comes only without `--check`,
+/// `Checked` only with it. Where neither the file system nor the server failed, the answer is the first condition that held, or
+/// `Done` or `Checked`, or a report's verdict, or that of a self-test, but for want of memory. No failure is kept quiet, and
+/// where the file system doesn't fail none is told. The printed bytes are the answer's lines.
 pub fn run<F: Fs, S: Server<F>, K: Sink>(
     alloc: Global,
     words: &[String],
@@ -115,6 +125,8 @@ pub fn run<F: Fs, S: Server<F>, K: Sink>(
     ensures frame { F.told fs.old ≡ true → (job : AJob) (check : Bool) → Asks (texts words.now) (asked.Upgrade job check) → Since (IsFramed job (F.trail fs.old).present) (F.trail fs.old) (F.trail fs.new) }
     ensures crashes { F.told fs.old ≡ true → Settled (F.trail fs.old).present → (LeavesAll result.answer → ⊥) → (job : AJob) (check : Bool) → Asks (texts words.now) (asked.Upgrade job check) → CrashesSafely S.catalog_of job (F.trail fs.old) (F.trail fs.new) }
     ensures finished { F.told fs.old ≡ true → (job : AJob) (check : Bool) → Asks (texts words.now) (asked.Upgrade job check) → IfDone result.answer (EndsFinished S.catalog_of job (F.trail fs.old).present (F.trail fs.new).present) }
+    ensures apart { (tables : ℕ) (mode : AMode) → Asks (texts words.now) (asked.SelfTest tables mode) → (F.trail fs.new ≡ F.trail fs.old) × (F.counts fs.new ≡ F.counts fs.old) × (S.counts server.new ≡ S.counts server.old) }
+    ensures tested { (tables : ℕ) (mode : AMode) → Asks (texts words.now) (asked.SelfTest tables mode) → IfTested result.answer (IsTested tables mode) }
     ensures own_cause { (line : ALine) → Asks (texts words.now) line → HasOwnCause line result.answer (F.counts fs.old) (F.counts fs.new) (S.counts server.old) (S.counts server.new) }
     ensures completes { F.told fs.old ≡ true → (Rose (F.counts fs.old).faults (F.counts fs.new).faults → ⊥) → (Rose (S.counts server.old).faults (S.counts server.new).faults → ⊥) → (line : ALine) → Asks (texts words.now) line → Completes S.catalog_of (F.trail fs.old).present line result.answer }
     ensures counts { HasCause (F.firm fs.old) (F.counts fs.old) (F.counts fs.new) (failure_in result.answer) }

@@ -1,7 +1,7 @@
 use Rattle.std.proofs.Common.{Err, ap, subst}
 use Rattle.command_words.specs.Words.{texts}
 use Rattle.accepted_words.specs.declared.line.Line.{Line}
-use Rattle.accepted_words.specs.declared.line.Line.TheVariants.{Upgrade}
+use Rattle.accepted_words.specs.declared.line.Line.TheVariants.{Upgrade, SelfTest}
 use Rattle.fs_model.proofs.Runs.{none_since}
 use Rattle.phase_frames.proofs.Kept.{start_framed}
 use Rattle.accepted_words.proofs.Faults.{one_line}
@@ -42,3 +42,9 @@ returns-in-Err-Usage-clause-frame g c told job check asks = none_since _ (g.F.Fs
 
 pub returns-in-Err-OutOfMemory-clause-frame : goal.returns-in-Err-OutOfMemory-clause-frame
 returns-in-Err-OutOfMemory-clause-frame g c told job check asks = none_since _ (g.F.Fs.trail c.args.fs.now) (start_framed job (g.F.Fs.trail c.args.fs.now).present)
+
+pub returns-in-Ok-clause-apart : goal.returns-in-Ok-clause-apart
+returns-in-Ok-clause-apart g c tables mode asks = c.answer_line.ensures.apart tables mode (one_line (texts c.args.words.now) c.in-Ok.line (SelfTest tables mode) c.in-Ok.ensures.accepted asks)
+
+pub returns-in-Ok-clause-tested : goal.returns-in-Ok-clause-tested
+returns-in-Ok-clause-tested g c tables mode asks = c.answer_line.ensures.tested tables mode (one_line (texts c.args.words.now) c.in-Ok.line (SelfTest tables mode) c.in-Ok.ensures.accepted asks)
