@@ -64,7 +64,6 @@ impl<'a, R: Files> Disk<'a, R> {
     pub(crate) fn make_symlink(&mut self, at: &Path, target: &Path) -> Result<(), FsError> {
         let place = self.place(at)?.not_root()?;
         let target = target.text()?;
-        self.passed.forget();
         symlink(self.rt, target.as_str(), place.text()).map_err(named)
     }
 
@@ -90,9 +89,8 @@ impl<'a, R: Files> Disk<'a, R> {
         fs::hard_link(self.rt, source.text(), target.text()).map_err(named)
     }
 
-    // Lets go of a name that may lead elsewhere soon, and of all ways.
+    // Lets go of a name that may lead elsewhere soon. Ways stay: what goes is no directory.
     fn let_go(&mut self, place: &Place) {
-        self.passed.forget();
         let_go(&mut self.reading, place.text());
         let_go(&mut self.writing, place.text());
     }

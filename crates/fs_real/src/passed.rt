@@ -6,7 +6,8 @@ use std::alloc::{AllocError, Global};
 use std::collections::BTreeMap;
 
 /// Directories that were looked at and found to be no symbolic links, with their devices. Nobody else changes what
-/// stands there, so they aren't asked for again until a call that can change it.
+/// stands there, so they aren't asked for again until a directory is removed: no other call takes one away, or puts
+/// something else where it stands.
 #[derive(Drop)]
 pub struct Passed {
     alloc: Global,
