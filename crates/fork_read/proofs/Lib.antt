@@ -1,5 +1,6 @@
 pub mod Numbered
 pub mod Found
-pub mod BlockReads
+pub mod Pieces
+pub mod PieceReads
 pub mod Taken
 pub mod SegmentSteps

@@ -1,5 +1,5 @@
 -- The blocks of a segment file, and of those that were found.
-use Rattle.std.specs.Prelude.{ℕ, ◌+◌, ◌-◌, ◌^◌, ◌≤◌, List, [], take, length, ◌++◌, Option, Some, None, Result, Ok, Err}
+use Rattle.std.specs.Prelude.{ℕ, ◌+◌, ◌-◌, ◌^◌, ◌≤◌, List, [], take, drop, length, ◌++◌, Option, Some, None, Result, Ok, Err}
 use Rattle.std.specs.Option.{unwrap_or}
 use Rattle.std.specs.List.{flat_map}
 use Rattle.fs_model.specs.declared.error.FsError.{FsError}
@@ -13,6 +13,7 @@ use Rattle.fs_model.specs.Reading.{file_bytes}
 use Rattle.cluster_meaning.specs.Blocks.{blocks_in, numbered}
 use Rattle.fork_read.specs.declared.extents.Extent.{Extent}
 use Rattle.fork_read.specs.declared.extents.Extents.{Extents}
+use Rattle.fork_read.specs.declared.reads.TheConstants.{PIECE_BLOCKS}
 
 -- ---- one call
 
@@ -42,6 +43,10 @@ sized (Err error) = Err error
 -- the whole blocks of the file at a path
 abbrev pub file_blocks : FsState → Path → List (List ℕ)
 file_blocks s path = blocks_in (unwrap_or (file_bytes s path) [])
+
+-- the blocks of a piece of the file at a path: those from a number on, as many as a piece has at most
+abbrev pub piece_blocks : FsState → Path → ℕ → List (List ℕ)
+piece_blocks s path n = take PIECE_BLOCKS (drop n (file_blocks s path))
 
 -- the blocks of a segment that count, with their numbers in the fork
 abbrev pub extent_blocks : FsState → Extent → List (ℕ × List ℕ)

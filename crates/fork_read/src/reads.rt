@@ -1,11 +1,12 @@
-// One block, and one size.
-ghost use Rattle.std.specs.Prelude.{◌≡◌, ◌≤◌, ◌<◌, true, None, length, take, IfOk, IfSome, slice_get, option_map};
+// One piece, and one size.
+ghost use Rattle.std.specs.Prelude.{◌≡◌, ◌*◌, ◌≤◌, ◌<◌, true, None, length, take, IfOk, option_map};
 ghost use Rattle.fs_model.specs.Calls.{ReadsAt, refusal};
 ghost use Rattle.fs_model.specs.Reading.{file_bytes};
 ghost use Rattle.fs_model.specs.WellFormed.{WellFormed};
 ghost use Rattle.fs_model.specs.Trail.{DecidedBy, error_of};
 ghost use Rattle.fs_model.specs.Observed.{Observed, OnlyReads};
-ghost use Rattle.fork_read.specs.Extents.{file_blocks, found_as, size_of, sized};
+ghost use Rattle.cluster_meaning.specs.Blocks.{blocks_in};
+ghost use Rattle.fork_read.specs.Extents.{file_blocks, piece_blocks, found_as, size_of, sized};
 
 use fs_model::{Fs, FsError, Kind, Path, Stat};
 use heap_page::PAGE_SIZE;
@@ -42,17 +43,20 @@ fn sized(found: Result<Option<Stat>, FsError>) -> Result<Option<u64>, FsError>
     }
 }
 
-/// Reads a block of a segment file into a buffer, and gives how many bytes were read: a whole block, where the file has one
-/// of that number. Refuses as `read_at` does, and never where the file has that block.
-pub fn read_block<F: Fs>(fs: &mut F, at: &Path, n: u32, into: &mut [u8]) -> Result<usize, FsError>
-    requires { length into.old ≡ PAGE_SIZE }
+/// How many blocks a piece has at most: together 1 MiB.
+pub const PIECE_BLOCKS: u32 = 128;
+
+/// Reads a piece of a segment file into a buffer of `PIECE_BLOCKS` blocks, from the file's block `n` on, and gives how many
+/// bytes were read. The whole blocks among them are those of the file from `n` on, as many as a piece has at most. Refuses as
+/// `read_at` does, and never where the file has block `n`.
+pub fn read_piece<F: Fs>(fs: &mut F, at: &Path, n: u32, into: &mut [u8]) -> Result<usize, FsError>
+    requires { length into.old ≡ PIECE_BLOCKS * PAGE_SIZE }
     ensures reads { OnlyReads (record { told = F.told fs.old; firm = F.firm fs.old; depth = F.depth fs.old; trail = F.trail fs.old; counts = F.counts fs.old })
         (record { told = F.told fs.new; firm = F.firm fs.new; depth = F.depth fs.new; trail = F.trail fs.new; counts = F.counts fs.new }) (error_of result) }
     ensures decided { F.told fs.old ≡ true → DecidedBy (refusal (F.trail fs.old).present (ReadsAt at.now)) result }
     ensures unrefused { F.told fs.old ≡ true → WellFormed (F.trail fs.old).present → n < length (file_blocks (F.trail fs.old).present at.now) → DecidedBy None result }
     ensures count { IfOk result (λ count. count ≤ length into.new) }
-    ensures block { F.told fs.old ≡ true → IfOk result (λ count.
-        IfSome (slice_get (file_blocks (F.trail fs.old).present at.now) n) (λ block. take count into.new ≡ block)) }
+    ensures blocks { F.told fs.old ≡ true → IfOk result (λ count. blocks_in (take count into.new) ≡ piece_blocks (F.trail fs.old).present at.now n) }
 {
     fs.read_at(at, n as u64 * PAGE_SIZE as u64, &mut *into)
 }

@@ -1,6 +1,9 @@
 -- One block more, and one segment more.
 use Rattle.std.proofs.Common.{◌≡◌, ◌∙◌, ℕ, zero, suc, ◌+◌, ◌<◌, ◌≤◌, List, [], ◌∷◌, ◌++◌, length, take, Option, Some, None, Result, Ok, Err, IfOk, IfSome, slice_get, get_or, flat_map, refl, ap, sym, subst, append_assoc, arith}
-use Rattle.std.proofs.lemmas.List.{take_more, append-nil, length-take-le}
+use Rattle.std.proofs.Common.{◌-◌, ◌*◌, drop, min}
+use Rattle.std.specs.Int.{div_ceil}
+use Rattle.std.proofs.Math.Seq.{take-add}
+use Rattle.std.proofs.lemmas.List.{take_more, append-nil, length-take-le, length-take, length-drop, drop-take, take_all}
 use Rattle.std.specs.List.{AllByRecursion}
 use Rattle.std.proofs.lemmas.Option.{slice_get-get_or}
 use Rattle.std.proofs.lemmas.Grind.{flat_map-append}
@@ -42,13 +45,56 @@ block_more first n blocks got lt read =
     ap (numbered first) (take_more blocks n got lt) ∙ numbered-append first (take n blocks) (get_or blocks n got ∷ [])
     ∙ (λ i. numbered first (take n blocks) ++ (first + size i, back i) ∷ [])
 
-pub chunks_more : {X : Type 0} (f : ℕ × List ℕ → List X) (xs more : List (ℕ × List ℕ)) (n : ℕ) (got : List ℕ) (old new before : List X) → more ≡ xs ++ (n, got) ∷ [] → new ≡ old ++ f (n, got)
-    → old ≡ before ++ flat_map f xs → new ≡ before ++ flat_map f more
-chunks_more {X} f xs more n got old new before all is so_far =
-    let front : List X = flat_map f xs in
-    is ∙ ap (λ l. l ++ f (n, got)) so_far ∙ append_assoc before front (f (n, got))
-    ∙ ap (λ l. before ++ (front ++ l)) (sym (append-nil (f (n, got))))
-    ∙ ap (λ l. before ++ l) (sym (flat_map-append f xs ((n, got) ∷ [])) ∙ ap (flat_map f) (sym all))
+-- the first elements of the first elements
+take_twice : {X : Type 0} (m k : ℕ) (xs : List X) → take m (take k xs) ≡ take (min m k) xs
+take_twice {X} zero k xs =
+    let none : 0 ≡ min 0 k = omega arith in
+    ap (λ j. take j xs) none
+take_twice {X} (suc m) zero xs =
+    let none : 0 ≡ min (suc m) 0 = omega arith in
+    ap (λ j. take j xs) none
+take_twice {X} (suc m) (suc k) [] =
+    let more : suc (min m k) ≡ min (suc m) (suc k) = omega arith in
+    let nothing : List X = [] in
+    ap (λ j. take j nothing) more
+take_twice {X} (suc m) (suc k) (x ∷ xs) =
+    let more : suc (min m k) ≡ min (suc m) (suc k) = omega arith in
+    ap (λ l. x ∷ l) (take_twice m k xs) ∙ ap (λ j. take j (x ∷ xs)) more
+
+-- the first blocks of a segment with those of a piece more, and their numbers
+pub piece_more : (first blocks n : ℕ) (file piece : List (List ℕ)) → n < blocks → blocks ≤ length file → piece ≡ take 128 (drop n file)
+    → numbered first (take (n + 128) (take blocks file)) ≡ numbered first (take n (take blocks file)) ++ numbered (first + n) (take (min 128 (blocks - n)) piece)
+piece_more first blocks n file piece lt stand is =
+    let xs : List (List ℕ) = take blocks file in
+    let all : blocks ≡ n + (blocks - n) = omega arith in
+    let long : length xs ≡ blocks = length-take-le blocks file stand in
+    let le : n ≤ length xs = omega arith in
+    let size : length (take n xs) ≡ n = length-take-le n xs le in
+    let few : min 128 (blocks - n) ≡ min (min 128 (blocks - n)) 128 = omega arith in
+    let behind : drop n xs ≡ take (blocks - n) (drop n file) = ap (λ k. drop n (take k file)) all ∙ drop-take n (blocks - n) file in
+    let more : take 128 (drop n xs) ≡ take (min 128 (blocks - n)) piece =
+    ap (take 128) behind ∙ take_twice 128 (blocks - n) (drop n file) ∙ ap (λ k. take k (drop n file)) few ∙ sym (take_twice (min 128 (blocks - n)) 128 (drop n file))
+    ∙ ap (take (min 128 (blocks - n))) (sym is) in
+    ap (numbered first) (take-add n 128 xs) ∙ numbered-append first (take n xs) (take 128 (drop n xs))
+    ∙ (λ i. numbered first (take n xs) ++ numbered (first + size i) (more i))
+
+-- a piece begins before the last block of its segment
+pub piece_before : (piece pieces blocks : ℕ) → piece < pieces → pieces ≡ div_ceil blocks 128 → piece * 128 < blocks
+piece_before piece pieces blocks lt is = omega (arith, lt, is)
+
+-- the blocks of a piece that count are there
+pub piece_length : (blocks n : ℕ) (file piece : List (List ℕ)) → n < blocks → blocks ≤ length file → piece ≡ take 128 (drop n file) → min 128 (blocks - n) ≤ length piece
+piece_length blocks n file piece lt stand is =
+    let behind : length (drop n file) ≡ length file - n = length-drop n file in
+    let size : length piece ≡ min 128 (length (drop n file)) = ap length is ∙ length-take 128 (drop n file) in
+    omega arith
+
+-- all blocks of a segment were read
+pub pieces_all : (pieces blocks : ℕ) (file : List (List ℕ)) → div_ceil blocks 128 ≤ pieces → blocks ≤ length file → take (pieces * 128) (take blocks file) ≡ take blocks file
+pieces_all pieces blocks file le stand =
+    let long : length (take blocks file) ≡ blocks = length-take-le blocks file stand in
+    let enough : length (take blocks file) ≤ pieces * 128 = omega arith in
+    take_all (pieces * 128) (take blocks file) enough
 
 -- want of memory of a function's own
 pub lacked : {T : Type 0} (before after : Observed) (result : Result T FsError) → IsErrAnd result (λ e. e ≡ OutOfMemory) → OnlyReads before after None → OnlyReads before after (unless_lack (error_of result))
@@ -88,6 +134,21 @@ gathered f before old new xs ys so_far more =
 pub chunks_of_numbered : (n : ℕ) (blocks : List (List ℕ)) → flat_map chunks_at (numbered n blocks) ≡ flat_map chunks_in blocks
 chunks_of_numbered n [] = refl
 chunks_of_numbered n (block ∷ blocks) = ap (λ l. chunks_in block ++ l) (chunks_of_numbered (n + 1) blocks)
+
+-- a piece's chunks behind those that were gathered
+pub chunks_then : (before old new : List Chunk) (xs more : List (ℕ × List ℕ)) (n : ℕ) (piece : List (List ℕ)) → more ≡ xs ++ numbered n piece → old ≡ before ++ flat_map chunks_at xs → new ≡ old ++ flat_map chunks_in piece
+    → new ≡ before ++ flat_map chunks_at more
+chunks_then before old new xs more n piece all so_far is =
+    gathered chunks_at before old new xs (numbered n piece) so_far (is ∙ ap (λ l. old ++ l) (sym (chunks_of_numbered n piece))) ∙ ap (λ l. before ++ flat_map chunks_at l) (sym all)
+
+-- one block more in a piece
+pub in_piece_more : {X : Type 0} (f : List ℕ → List X) (blocks : List (List ℕ)) (n : ℕ) (got : List ℕ) (before old new : List X) → n < length blocks → IfSome (slice_get blocks n) (λ block. got ≡ block)
+    → old ≡ before ++ flat_map f (take n blocks) → new ≡ old ++ f got → new ≡ before ++ flat_map f (take (n + 1) blocks)
+in_piece_more f blocks n got before old new lt read so_far is =
+    let stands : slice_get blocks n ≡ Some (get_or blocks n got) = slice_get-get_or blocks n got lt in
+    let same : got ≡ get_or blocks n got = subst (λ o. IfSome o (λ block. got ≡ block)) stands read in
+    is ∙ ap (λ l. l ++ f got) so_far ∙ append_assoc before (flat_map f (take n blocks)) (f got)
+    ∙ ap (λ l. before ++ l) (sym (over_more f blocks n got lt same))
 
 -- ---- answers
 

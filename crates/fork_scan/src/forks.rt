@@ -15,7 +15,7 @@ ghost use Rattle.fork_read.specs.Extents.{IsBacked, extent_blocks};
 
 use crate::scan::{add_all_chunks, add_rows};
 use block_rows::{Reader, Rows};
-use fork_read::{Extent, extents_of};
+use fork_read::{Extent, PIECE_BLOCKS, extents_of};
 use fs_model::{Fs, FsError};
 use heap_page::PAGE_SIZE;
 use relation_files::{ClusterSite, Fork, Relation};
@@ -39,7 +39,7 @@ fn read_rows<F: Fs, L: Lookup>(
         → IfOk result (TellsRows reading reader.now.snapshot.now blocks) }
     ensures unrefused { F.told fs.old ≡ true → WellFormed (F.trail fs.old).present → AllByRecursion (IsBacked (F.trail fs.old).present) extents.now → DecidedBy None result }
 {
-    let mut buffer = vec![in alloc; 0u8; PAGE_SIZE]?;
+    let mut buffer = vec![in alloc; 0u8; PIECE_BLOCKS as usize * PAGE_SIZE]?;
     let mut rows = Rows {
         rows: Vec::new(alloc),
         unread: Vec::new(alloc),
@@ -51,8 +51,8 @@ fn read_rows<F: Fs, L: Lookup>(
     }
 }
 
-/// What a snapshot sees in the main fork of a relation, which is read block by block. What is no file counts as a missing
-/// segment.
+/// What a snapshot sees in the main fork of a relation, which is read in pieces of at most `PIECE_BLOCKS` blocks. What is no
+/// file counts as a missing segment.
 pub fn fork_rows<F: Fs, L: Lookup>(
     alloc: Global,
     fs: &mut F,
@@ -85,7 +85,7 @@ fn read_chunks<F: Fs>(alloc: Global, fs: &mut F, extents: &[Extent]) -> Result<V
         → IfOk result (λ chunks. chunks.items ≡ chunks_of_blocks blocks) }
     ensures unrefused { F.told fs.old ≡ true → WellFormed (F.trail fs.old).present → AllByRecursion (IsBacked (F.trail fs.old).present) extents.now → DecidedBy None result }
 {
-    let mut buffer = vec![in alloc; 0u8; PAGE_SIZE]?;
+    let mut buffer = vec![in alloc; 0u8; PIECE_BLOCKS as usize * PAGE_SIZE]?;
     let mut chunks = Vec::new(alloc);
     match add_all_chunks(alloc, fs, extents, &mut buffer, &mut chunks) {
         Ok(()) => Ok(chunks),

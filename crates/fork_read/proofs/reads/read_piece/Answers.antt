@@ -1,12 +1,12 @@
-use Rattle.std.proofs.Common.{◌≡◌, ◌∙◌, ◌*◌, ℕ, List, None, subst, length, take, IfOk, IfSome, slice_get}
+use Rattle.std.proofs.Common.{◌≡◌, ◌∙◌, ℕ, List, subst, length}
 use Rattle.fs_model.specs.Calls.{ReadsAt}
 use Rattle.fs_model.specs.Trail.{DecidedBy, error_of}
 use Rattle.fs_model.proofs.Runs.{steps_decided}
 use Rattle.fs_model.specs.State.{FsState}
 use Rattle.fs_model.specs.Observed.{Observed}
 use Rattle.fs_model.proofs.Observing.{one_reads}
-use Rattle.fork_read.proofs.BlockReads.{block_read_ok, has_block}
-use Rattle.fork_read.proofs.reads.read_block.Goals as goal
+use Rattle.fork_read.proofs.PieceReads.{piece_read_ok, has_block}
+use Rattle.fork_read.proofs.reads.read_piece.Goals as goal
 
 pub returns-clause-reads : goal.returns-clause-reads
 returns-clause-reads g c =
@@ -16,12 +16,12 @@ returns-clause-reads g c =
     let call = c.read_at.ensures in
     one_reads before after (ReadsAt c.args.at.now) (error_of c.read_at.result) tt call.told call.firm call.depth call.steps call.cause
 
-pub returns-clause-block : goal.returns-clause-block
-returns-clause-block g c told =
+pub returns-clause-blocks : goal.returns-clause-blocks
+returns-clause-blocks g c told =
     let s : FsState = (g.F.Fs.trail c.args.fs.now).present in
     let into : List ℕ = c.read_at.new.into in
-    let whole : length into ≡ 8192 = c.read_at.auto.into ∙ c.requires in
-    block_read_ok s c.args.at.now c.args.n into c.read_at.result whole (c.read_at.ensures.gives told)
+    let whole : length into ≡ 1048576 = c.read_at.auto.into ∙ c.requires in
+    piece_read_ok s c.args.at.now c.args.n into c.read_at.result whole (c.read_at.ensures.gives told)
 
 pub returns-clause-decided : goal.returns-clause-decided
 returns-clause-decided g c told =
