@@ -1,6 +1,11 @@
 pub mod ListLemmas
 pub mod SpaceLemmas
+pub mod KnownLemmas
+pub mod KnownLists
 pub mod CauseLemmas
+pub mod FreeLemmas
+pub mod IndexNames
+pub mod LabelPlaces
 pub mod DatabaseLemmas
 pub mod TypeLemmas
 pub mod RelationLemmas

@@ -248,6 +248,17 @@ none_from passes (x ∷ xs) n h = more (passes x) h (none_from passes xs (n + 1)
 pub none_found : {A : Type 0} (passes : A → Bool) (xs : List A) → position passes xs ≡ None → find passes xs ≡ None
 none_found passes xs h = none_from passes xs 0 (sym (position_from-zero passes xs) ∙ h)
 
+none_at : {A : Type 0} (passes : A → Bool) (xs : List A) (n : ℕ) → list_any passes xs ≡ false → position_from passes n xs ≡ None
+none_at passes [] n h = refl
+none_at passes (x ∷ xs) n h = more (passes x) h (none_at passes xs (n + 1))
+  where
+    more : (b : Bool) → (b || list_any passes xs) ≡ false → (list_any passes xs ≡ false → position_from passes (n + 1) xs ≡ None) → cond b (Some n) (position_from passes (n + 1) xs) ≡ None
+    more true h rest = cc
+    more false h rest = rest h
+
+pub no_position : {A : Type 0} (passes : A → Bool) (xs : List A) → list_any passes xs ≡ false → position passes xs ≡ None
+no_position passes xs h = position_from-zero passes xs ∙ none_at passes xs 0 h
+
 -- ---- tests that can be turned
 
 bool_same : (a b : Bool) → (a ≡ true → b ≡ true) → (b ≡ true → a ≡ true) → a ≡ b

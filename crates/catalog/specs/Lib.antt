@@ -3,6 +3,7 @@ pub mod Lists
 pub mod Cluster
 pub mod Spaces
 pub mod Lookups
+pub mod Known
 pub mod Forms
 pub mod Refusals
 pub mod Changes

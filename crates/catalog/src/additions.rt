@@ -1,11 +1,11 @@
 // What joins a database, behind what it holds.
-ghost use Rattle.std.specs.Prelude.{◌≡◌, ◌≢◌, ◌++◌, ◌∷◌, [], true, None, Some, OnOk, OnErr, IfErr};
-ghost use Rattle.std.specs.List.{list_all, find, position};
-ghost use Rattle.catalog.specs.Lists.{change_first};
-ghost use Rattle.catalog.specs.Spaces.{enum_has, table_oids, table_files};
+ghost use Rattle.std.specs.Prelude.{◌≡◌, ◌≢◌, true, false, None, Some, OnOk, OnErr, IfErr};
+ghost use Rattle.std.specs.List.{list_all};
+ghost use Rattle.catalog.specs.Spaces.{SchemaName, table_oids, table_files};
+ghost use Rattle.catalog.specs.Known.{has_table, index_of_name, name_at};
 ghost use Rattle.catalog.specs.Forms.{is_32_bits};
 ghost use Rattle.catalog.specs.Refusals.{schema_refusal, enum_refusal, label_refusal, table_refusal, index_refusal, sequence_refusal};
-ghost use Rattle.catalog.specs.Changes.{set_connections, add_schema, add_enum, labelled, add_label, add_table, add_index, add_sequence};
+ghost use Rattle.catalog.specs.Changes.{set_connections, add_schema, add_enum, add_label, add_table, add_index, add_sequence};
 
 use crate::causes::{fit, fits};
 use crate::databases::Database;
@@ -14,6 +14,9 @@ use crate::error::CatalogError;
 use crate::labels::label_oids_fit;
 use crate::owners::{Role, Schema, Tablespace};
 use crate::relations::{Index, Sequence, Table};
+use crate::tables::Tables;
+use object_places::NamePlaces;
+use std::alloc::AllocError;
 
 // The OIDs and the file numbers of a table have 32 bits.
 fn table_numbers_fit(table: &Table)
@@ -34,24 +37,22 @@ fn table_numbers_fit(table: &Table)
     }
 }
 
-fn place_of_enum(enums: &[EnumType], oid: u32) -> Option<usize>
-    ensures { result ≡ position (enum_has oid) enums.now }
+// Notes the place of an index by its name, in the schema of its table. Other names lead where they did, also where
+// memory lacked.
+fn put_index_name(
+    names: &mut NamePlaces,
+    tables: &Tables,
+    index: &Index,
+    place: usize,
+) -> Result<(), AllocError>
+    requires { has_table tables.now index.now ≡ true }
+    ensures others { (key : SchemaName) → index_of_name tables.now key index.now ≡ false → name_at names.new key ≡ name_at names.old key }
+    ensures placed { OnOk result ((key : SchemaName) → index_of_name tables.now key index.now ≡ true → name_at names.new key ≡ Some place) }
 {
-    enums.iter().position(|kind| kind.oid == oid)
-}
-
-// Adds a label behind those of the enum of an OID.
-fn push_label(enums: &mut Vec<EnumType>, kind: u32, label: Label) -> Result<(), CatalogError>
-    ensures ok { OnOk result (enums.new.items ≡ change_first (enum_has kind) (labelled label) enums.old.items) }
-    ensures missing { IfErr result (λ e. e ≢ CatalogError.OutOfMemory → (e ≡ CatalogError.NoSuch) × (find (enum_has kind) enums.old.items ≡ None)) }
-    ensures unchanged { OnErr result (enums.new.items ≡ enums.old.items) }
-{
-    let Some(place) = place_of_enum(enums, kind) else {
-        return Err(CatalogError::NoSuch);
-    };
-    let found = &mut enums[place];
-    found.labels.push(label)?;
-    Ok(())
+    match tables.of_oid(index.table) {
+        Some(table) => names.put(&table.schema, &index.name, place),
+        None => Ok(()),
+    }
 }
 
 impl Database {
@@ -98,7 +99,7 @@ impl Database {
         if let Some(cause) = self.refusal_of_label(kind, &label) {
             return Err(cause);
         }
-        push_label(&mut self.enums, kind, label)?;
+        self.enums.push_label(kind, label)?;
         Ok(())
     }
 
@@ -137,6 +138,8 @@ impl Database {
         if let Some(cause) = self.refusal_of_index(tablespaces, &index) {
             return Err(cause);
         }
+        let place = self.indexes.items().len();
+        put_index_name(&mut self.index_names, &self.tables, &index, place)?;
         self.indexes.push(index)?;
         Ok(())
     }

@@ -2,30 +2,24 @@
 ghost use Rattle.std.specs.Prelude.{◌≡◌, ◌&&◌, true, nat_eq};
 ghost use Rattle.std.specs.List.{list_any, list_all};
 ghost use Rattle.catalog.specs.Lists.{are_distinct};
-ghost use Rattle.catalog.specs.Forms.{has_enum, column_stands, is_live, same_column, key_stands};
+ghost use Rattle.catalog.specs.Forms.{column_stands, is_live, same_column, key_stands};
 
-use crate::enums::EnumType;
+use crate::enum_types::EnumTypes;
 use crate::relations::Column;
 use crate::types::ColumnKind;
 
-pub(crate) fn has_enum(enums: &[EnumType], oid: u32) -> bool
-    ensures { result ≡ has_enum enums.now oid }
-{
-    enums.iter().any(|kind| kind.oid == oid)
-}
-
 // Whether the enum that a column is of is there.
-fn column_stands(enums: &[EnumType], column: &Column) -> bool
+fn column_stands(enums: &EnumTypes, column: &Column) -> bool
     ensures { result ≡ column_stands enums.now column.now }
 {
     match column.kind {
         ColumnKind::Base(_) => true,
-        ColumnKind::Enum(oid) => has_enum(enums, oid),
+        ColumnKind::Enum(oid) => enums.stand(oid),
         ColumnKind::Dropped { .. } => true,
     }
 }
 
-pub(crate) fn columns_stand(enums: &[EnumType], columns: &[Column]) -> bool
+pub(crate) fn columns_stand(enums: &EnumTypes, columns: &[Column]) -> bool
     ensures { result ≡ list_all (column_stands enums.now) columns.now }
 {
     columns.iter().all(|column| column_stands(enums, column))

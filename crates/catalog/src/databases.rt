@@ -5,11 +5,17 @@ ghost use Rattle.catalog.specs.declared.error.CatalogError.TheVariants.{OutOfMem
 ghost use Rattle.catalog.specs.Cluster.{fresh_database, public_schema};
 ghost use Rattle.catalog.specs.Spaces.{table_has};
 
+use crate::enum_types::EnumTypes;
 use crate::enums::EnumType;
 use crate::error::CatalogError;
+use crate::indexes::Indexes;
 use crate::owners::Schema;
 use crate::relations::{Index, Sequence, Table};
+use crate::schemas::Schemas;
+use crate::sequences::Sequences;
+use crate::tables::Tables;
 use fs_model::Text;
+use object_places::NamePlaces;
 use std::alloc::Global;
 use std::marker::Model;
 
@@ -25,11 +31,13 @@ pub struct Database {
     pub owner: u32,
     /// Whether it may be connected to, `datallowconn`.
     pub connections: bool,
-    pub(crate) schemas: Vec<Schema>,
-    pub(crate) enums: Vec<EnumType>,
-    pub(crate) tables: Vec<Table>,
-    pub(crate) indexes: Vec<Index>,
-    pub(crate) sequences: Vec<Sequence>,
+    pub(crate) schemas: Schemas,
+    pub(crate) enums: EnumTypes,
+    pub(crate) tables: Tables,
+    pub(crate) indexes: Indexes,
+    // the places of the indexes by their names, in the schemas of their tables
+    pub(crate) index_names: NamePlaces,
+    pub(crate) sequences: Sequences,
 }
 
 impl Model for Database {
@@ -37,7 +45,11 @@ impl Model for Database {
 
     ghost Value = { DatabaseObjects };
 
-    ghost view = { λ d. record { oid = d.oid; name = d.name; owner = d.owner; connections = d.connections; schemas = d.schemas.items; enums = d.enums.items; tables = d.tables.items; indexes = d.indexes.items; sequences = d.sequences.items } };
+    ghost view = { λ d. record { oid = d.oid; name = d.name; owner = d.owner; connections = d.connections; schemas = d.schemas; enums = d.enums; tables = d.tables; indexes = d.indexes; sequences = d.sequences } };
+
+    ghost use Rattle.catalog.specs.Known.{IndexNamesKnown};
+
+    ghost invariant = { λ d. IndexNamesKnown d.tables d.indexes d.index_names };
 }
 
 // The schema that each database has from the start.
@@ -64,7 +76,7 @@ impl Database {
         ensures made { IfOk result (λ d. d ≡ fresh_database oid name owner connections) }
         ensures error { IfErr result (λ e. e ≡ OutOfMemory) }
     {
-        let mut schemas = Vec::new(alloc);
+        let mut schemas = Schemas::new(alloc);
         schemas.push(public_schema(alloc)?)?;
         Ok(Database {
             oid,
@@ -72,10 +84,11 @@ impl Database {
             owner,
             connections,
             schemas,
-            enums: Vec::new(alloc),
-            tables: Vec::new(alloc),
-            indexes: Vec::new(alloc),
-            sequences: Vec::new(alloc),
+            enums: EnumTypes::new(alloc),
+            tables: Tables::new(alloc),
+            indexes: Indexes::new(alloc),
+            index_names: NamePlaces::new(alloc),
+            sequences: Sequences::new(alloc),
         })
     }
 
@@ -83,41 +96,41 @@ impl Database {
     pub fn schema_at(&self, n: usize) -> Option<&Schema>
         ensures { option_copied result ≡ slice_get self.now.schemas n }
     {
-        self.schemas.get(n)
+        self.schemas.items().get(n)
     }
 
     /// The enum at a place, counted from 0.
     pub fn enum_at(&self, n: usize) -> Option<&EnumType>
         ensures { option_copied result ≡ slice_get self.now.enums n }
     {
-        self.enums.get(n)
+        self.enums.items().get(n)
     }
 
     /// The table at a place, counted from 0.
     pub fn table_at(&self, n: usize) -> Option<&Table>
         ensures { option_copied result ≡ slice_get self.now.tables n }
     {
-        self.tables.get(n)
+        self.tables.items().get(n)
     }
 
     /// The index at a place, counted from 0.
     pub fn index_at(&self, n: usize) -> Option<&Index>
         ensures { option_copied result ≡ slice_get self.now.indexes n }
     {
-        self.indexes.get(n)
+        self.indexes.items().get(n)
     }
 
     /// The sequence at a place, counted from 0.
     pub fn sequence_at(&self, n: usize) -> Option<&Sequence>
         ensures { option_copied result ≡ slice_get self.now.sequences n }
     {
-        self.sequences.get(n)
+        self.sequences.items().get(n)
     }
 
     /// The table of an OID.
     pub fn table(&self, oid: u32) -> Option<&Table>
         ensures { option_copied result ≡ find (table_has oid) self.now.tables }
     {
-        self.tables.iter().find(|table| table.oid == oid)
+        self.tables.of_oid(oid)
     }
 }

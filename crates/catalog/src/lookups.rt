@@ -8,7 +8,6 @@ ghost use Rattle.catalog.specs.Lookups.{role_is, tablespace_is, database_is, enu
 use crate::cluster::Catalog;
 use crate::databases::Database;
 use crate::enums::EnumType;
-use crate::lists::is_named;
 use crate::owners::{Role, Tablespace};
 use crate::relations::Table;
 use fs_model::Text;
@@ -84,59 +83,55 @@ impl Database {
     pub fn schema_count(&self) -> usize
         ensures { result ≡ length self.now.schemas }
     {
-        self.schemas.len()
+        self.schemas.items().len()
     }
 
     /// The number of enums.
     pub fn enum_count(&self) -> usize
         ensures { result ≡ length self.now.enums }
     {
-        self.enums.len()
+        self.enums.items().len()
     }
 
     /// The number of tables.
     pub fn table_count(&self) -> usize
         ensures { result ≡ length self.now.tables }
     {
-        self.tables.len()
+        self.tables.items().len()
     }
 
     /// The number of indexes.
     pub fn index_count(&self) -> usize
         ensures { result ≡ length self.now.indexes }
     {
-        self.indexes.len()
+        self.indexes.items().len()
     }
 
     /// The number of sequences.
     pub fn sequence_count(&self) -> usize
         ensures { result ≡ length self.now.sequences }
     {
-        self.sequences.len()
+        self.sequences.items().len()
     }
 
     /// The enum of an OID.
     pub fn enum_type(&self, oid: u32) -> Option<&EnumType>
         ensures { option_copied result ≡ find (enum_has oid) self.now.enums }
     {
-        self.enums.iter().find(|kind| kind.oid == oid)
+        self.enums.of_oid(oid)
     }
 
     /// The enum of a schema and a name.
     pub fn enum_named(&self, schema: &Text, name: &Text) -> Option<&EnumType>
         ensures { option_copied result ≡ find (enum_is schema.now name.now) self.now.enums }
     {
-        self.enums
-            .iter()
-            .find(|kind| is_named(schema, name, &kind.schema, &kind.name))
+        self.enums.named(schema, name)
     }
 
     /// The table of a schema and a name.
     pub fn table_named(&self, schema: &Text, name: &Text) -> Option<&Table>
         ensures { option_copied result ≡ find (table_is schema.now name.now) self.now.tables }
     {
-        self.tables
-            .iter()
-            .find(|table| is_named(schema, name, &table.schema, &table.name))
+        self.tables.named(schema, name)
     }
 }

@@ -2,7 +2,7 @@
 ghost use Rattle.std.specs.Prelude.{◌≡◌, ◌||◌, true, bytes_eq, nat_eq, codes};
 ghost use Rattle.std.specs.List.{list_any, list_all};
 ghost use Rattle.catalog.specs.Spaces.{role_oids, role_names, tablespace_oids, tablespace_names, database_oids, database_names};
-ghost use Rattle.catalog.specs.Forms.{has_role, has_tablespace, has_schema};
+ghost use Rattle.catalog.specs.Forms.{has_role, has_tablespace};
 ghost use Rattle.catalog.specs.Refusals.{role_refusal, tablespace_refusal, database_refusal};
 ghost use Rattle.fs_model.specs.Names.{is_name};
 
@@ -10,7 +10,7 @@ use crate::causes::{first_cause, is_system_number};
 use crate::databases::Database;
 use crate::error::CatalogError;
 use crate::lists::either;
-use crate::owners::{Role, Schema, Tablespace};
+use crate::owners::{Role, Tablespace};
 use fs_model::{Name, Text};
 
 pub(crate) fn has_role(roles: &[Role], oid: u32) -> bool
@@ -23,14 +23,6 @@ pub(crate) fn has_tablespace(tablespaces: &[Tablespace], oid: u32) -> bool
     ensures { result ≡ has_tablespace tablespaces.now oid }
 {
     tablespaces.iter().any(|tablespace| tablespace.oid == oid)
-}
-
-pub(crate) fn has_schema(schemas: &[Schema], name: &Text) -> bool
-    ensures { result ≡ has_schema schemas.now name.now }
-{
-    schemas
-        .iter()
-        .any(|schema| schema.name.bytes() == name.bytes())
 }
 
 fn is_role_oid(roles: &[Role], oid: u32) -> bool

@@ -15,7 +15,7 @@ use crate::error::CatalogError;
 use crate::labels::{has_long_label, has_text, is_long, label_texts_differ};
 use crate::lists::{DEFAULT_TABLESPACE, either};
 use crate::owners::{Role, Schema, Tablespace};
-use crate::references::{has_role, has_schema, has_tablespace};
+use crate::references::{has_role, has_tablespace};
 use crate::relations::{Index, Sequence, Table};
 use fs_model::Text;
 
@@ -38,7 +38,7 @@ impl Database {
     fn stands_in(&self, roles: &[Role], owner: u32, schema: &Text) -> bool
         ensures { result ≡ (has_role roles.now owner && has_schema self.now.schemas schema.now) }
     {
-        has_role(roles, owner) && has_schema(&self.schemas, schema)
+        has_role(roles, owner) && self.schemas.stand(schema)
     }
 
     fn is_relation_taken(&self, oid: u32) -> bool
@@ -101,7 +101,7 @@ impl Database {
     {
         let owner = has_role(roles, table.owner);
         let tablespace = has_tablespace(tablespaces, table.tablespace);
-        let schema = has_schema(&self.schemas, &table.schema);
+        let schema = self.schemas.stand(&table.schema);
         let columns = columns_stand(&self.enums, table.columns.items());
         owner && tablespace && schema && columns
     }
@@ -138,6 +138,8 @@ impl Database {
         }
     }
 
+    // The names of the columns are compared in pairs, and only once there are few enough.
+    #[tactic(auto, unfolding(crate::specs::Refusals::first_cause))]
     pub(crate) fn refusal_of_table(
         &self,
         roles: &[Role],
@@ -146,15 +148,19 @@ impl Database {
     ) -> Option<CatalogError>
         ensures { result ≡ table_refusal roles.now tablespaces.now self.now table.now }
     {
-        let stands = self.table_stands(roles, tablespaces, table);
-        let too_many = table.columns.items().len() > TABLE_COLUMNS;
+        if !self.table_stands(roles, tablespaces, table) {
+            return Some(CatalogError::NoSuch);
+        }
+        if table.columns.items().len() > TABLE_COLUMNS {
+            return Some(CatalogError::TooMany);
+        }
         let oid_taken = either(
             self.are_table_oids_taken(table),
             self.is_type_taken(table.row_type),
         );
         let name_taken = self.is_table_name_taken(table);
         let file_taken = self.are_table_files_taken(table);
-        first_cause(!stands, too_many, oid_taken, name_taken, file_taken)
+        first_cause(false, false, oid_taken, name_taken, file_taken)
     }
 
     // Why an index can't stand over a table.

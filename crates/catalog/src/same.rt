@@ -193,11 +193,11 @@ impl Same for Database {
         let name = same_text(&self.name, &other.name);
         let owner = self.owner == other.owner;
         let connections = self.connections == other.connections;
-        let schemas = same_items(&self.schemas, &other.schemas);
-        let enums = same_items(&self.enums, &other.enums);
-        let tables = same_items(&self.tables, &other.tables);
-        let indexes = same_items(&self.indexes, &other.indexes);
-        let sequences = same_items(&self.sequences, &other.sequences);
+        let schemas = same_items(self.schemas.items(), other.schemas.items());
+        let enums = same_items(self.enums.items(), other.enums.items());
+        let tables = same_items(self.tables.items(), other.tables.items());
+        let indexes = same_items(self.indexes.items(), other.indexes.items());
+        let sequences = same_items(self.sequences.items(), other.sequences.items());
         let head = both(oid, both(name, both(owner, connections)));
         let types = both(schemas, both(enums, tables));
         both(head, both(types, both(indexes, sequences)))

@@ -9,22 +9,19 @@ use crate::causes::{are_distinct, has_system_number};
 use crate::databases::Database;
 use crate::enums::Label;
 use crate::labels::{label_oids_differ, labels_have_system_oid};
-use crate::lists::{
-    either, enums_have_label, enums_have_name, enums_have_oid, indexes_have_file, indexes_have_oid,
-    schemas_have_name, sequences_have_file, sequences_have_name, sequences_have_oid,
-    tables_have_file, tables_have_name, tables_have_oid, tables_have_row_type,
-};
+use crate::lists::either;
 use crate::relations::Index;
 use fs_model::Text;
+use object_places::object_at;
 
 impl Database {
     #[tactic(auto, using(crate::proofs::SpaceLemmas::relation_oid))]
     pub(crate) fn has_relation(&self, oid: u32) -> bool
         ensures { result ≡ list_any (nat_eq oid) (relation_oids self.now) }
     {
-        let table = tables_have_oid(&self.tables, oid);
-        let index = indexes_have_oid(&self.indexes, oid);
-        let sequence = sequences_have_oid(&self.sequences, oid);
+        let table = self.tables.have_oid(oid);
+        let index = self.indexes.have_oid(oid);
+        let sequence = self.sequences.have_oid(oid);
         either(table, either(index, sequence))
     }
 
@@ -32,8 +29,8 @@ impl Database {
     pub(crate) fn has_type(&self, oid: u32) -> bool
         ensures { result ≡ list_any (nat_eq oid) (type_oids self.now) }
     {
-        let kind = enums_have_oid(&self.enums, oid);
-        let table = tables_have_row_type(&self.tables, oid);
+        let kind = self.enums.have_oid(oid);
+        let table = self.tables.have_row_type(oid);
         either(kind, table)
     }
 
@@ -41,14 +38,14 @@ impl Database {
     pub(crate) fn has_label(&self, oid: u32) -> bool
         ensures { result ≡ list_any (nat_eq oid) (label_oids self.now) }
     {
-        enums_have_label(&self.enums, oid)
+        self.enums.have_label(oid)
     }
 
     #[tactic(auto, using(crate::proofs::SpaceLemmas::schema_name))]
     pub(crate) fn has_schema_named(&self, name: &Text) -> bool
         ensures { result ≡ list_any (bytes_eq name.now) (schema_names self.now) }
     {
-        schemas_have_name(&self.schemas, name)
+        self.schemas.have_name(name)
     }
 
     // Whether the table of an OID is in a schema.
@@ -70,18 +67,19 @@ impl Database {
     fn has_index_named(&self, schema: &Text, name: &Text) -> bool
         ensures { result ≡ list_any (λ i. same_name (record { schema = schema.now; name = name.now }) (index_name self.now.tables i)) self.now.indexes }
     {
-        self.indexes
-            .iter()
-            .any(|index| self.index_is_named(index, schema, name))
+        match object_at(self.indexes.items(), self.index_names.get(schema, name)) {
+            Some(index) => self.index_is_named(index, schema, name),
+            None => false,
+        }
     }
 
     #[tactic(auto, using(crate::proofs::SpaceLemmas::relation_name))]
     pub(crate) fn has_relation_named(&self, schema: &Text, name: &Text) -> bool
         ensures { result ≡ list_any (same_name (record { schema = schema.now; name = name.now })) (relation_names self.now) }
     {
-        let table = tables_have_name(&self.tables, schema, name);
+        let table = self.tables.have_name(schema, name);
         let index = self.has_index_named(schema, name);
-        let sequence = sequences_have_name(&self.sequences, schema, name);
+        let sequence = self.sequences.have_name(schema, name);
         either(table, either(index, sequence))
     }
 
@@ -89,8 +87,8 @@ impl Database {
     pub(crate) fn has_type_named(&self, schema: &Text, name: &Text) -> bool
         ensures { result ≡ list_any (same_name (record { schema = schema.now; name = name.now })) (type_names self.now) }
     {
-        let kind = enums_have_name(&self.enums, schema, name);
-        let table = tables_have_name(&self.tables, schema, name);
+        let kind = self.enums.have_name(schema, name);
+        let table = self.tables.have_name(schema, name);
         either(kind, table)
     }
 
@@ -98,9 +96,9 @@ impl Database {
     pub(crate) fn has_file(&self, tablespace: u32, number: u32) -> bool
         ensures { result ≡ list_any (same_place (place_in tablespace number)) (file_places self.now) }
     {
-        let table = tables_have_file(&self.tables, tablespace, number);
-        let index = indexes_have_file(&self.indexes, tablespace, number);
-        let sequence = sequences_have_file(&self.sequences, tablespace, number);
+        let table = self.tables.have_file(tablespace, number);
+        let index = self.indexes.have_file(tablespace, number);
+        let sequence = self.sequences.have_file(tablespace, number);
         either(table, either(index, sequence))
     }
 
