@@ -1,5 +1,5 @@
 -- The form that each object has by itself, and what it takes to be there.
-use Rattle.std.specs.Prelude.{ℕ, ◌-◌, ◌^◌, ℤ, pos, negsuc, Bool, true, false, ◌&&◌, nat_lt, nat_le, nat_eq, bytes_eq, List, [], length, slice_get, Option, Some, None, is_none}
+use Rattle.std.specs.Prelude.{ℕ, ◌-◌, ◌^◌, ℤ, pos, negsuc, Bool, true, false, ◌&&◌, nat_lt, nat_le, nat_eq, bytes_eq, List, [], length, slice_get, Option, Some, None, is_some, is_none}
 use Rattle.std.specs.List.{list_any, list_all, find}
 use Rattle.catalog.specs.declared.types.ColumnKind.{ColumnKind}
 use Rattle.catalog.specs.declared.types.ColumnKind.TheVariants.{Base, Enum, Dropped}
@@ -87,13 +87,9 @@ abbrev pub table_stands : List Role → List Tablespace → DatabaseObjects → 
 table_stands roles tablespaces d table =
     has_role roles table.owner && has_tablespace tablespaces table.tablespace && has_schema d.schemas table.schema && list_all (column_stands d.enums) table.columns
 
-abbrev pub live_in : Option Column → Bool
-live_in None = false
-live_in (Some column) = is_live column
-
--- a key counts columns from 1; a dropped column isn't there
+-- a key counts columns from 1, dropped ones too
 abbrev pub key_stands : List Column → ℕ → Bool
-key_stands columns key = nat_lt 0 key && live_in (slice_get columns (key - 1))
+key_stands columns key = nat_lt 0 key && is_some (slice_get columns (key - 1))
 
 abbrev pub keys_stand : List ℕ → Option Table → Bool
 keys_stand keys None = false

@@ -62,17 +62,14 @@ pub(crate) fn column_names_differ(columns: &[Column]) -> bool
     true
 }
 
-// Whether a key counts a column that wasn't dropped.
+// Whether a key counts a column.
 fn key_stands(columns: &[Column], key: u16) -> bool
     ensures { result ≡ key_stands columns.now key }
 {
     if key == 0 {
         return false;
     }
-    match columns.get(key as usize - 1) {
-        Some(column) => is_live(column),
-        None => false,
-    }
+    columns.get(key as usize - 1).is_some()
 }
 
 pub(crate) fn keys_stand(columns: &[Column], keys: &[u16]) -> bool

@@ -1,6 +1,6 @@
 -- The statements of a valid catalog can be written.
 use Rattle.std.proofs.Common.{◌≡◌, ℕ, ◌-◌, ◌<◌, ◌≤◌, ◌^◌, Bool, true, false, cond, List, [], ◌∷◌, ◌++◌, length, map, Option, Some, None, refl, sym, ap, subst, ◌∙◌, arith}
-use Rattle.std.specs.Prelude.{not, ◌&&◌, ◌||◌, nat_lt, nat_le, bytes_eq, is_none, slice_get}
+use Rattle.std.specs.Prelude.{not, ◌&&◌, ◌||◌, nat_lt, nat_le, bytes_eq, is_some, is_none, slice_get}
 use Rattle.std.specs.List.{list_all, flat_map}
 use Rattle.std.proofs.lemmas.Bool.{ltb-true, le-leb}
 use Rattle.std.proofs.lemmas.Slice.Eq.{bytes_eq-Decides}
@@ -14,7 +14,7 @@ use Rattle.catalog.specs.declared.enums.EnumType.{EnumType}
 use Rattle.catalog.specs.declared.relations.Column.{Column}
 use Rattle.catalog.specs.Cluster.{DatabaseObjects, Cluster, first_tablespace}
 use Rattle.catalog.specs.Spaces.{role_has, tablespace_has, enum_has}
-use Rattle.catalog.specs.Forms.{is_name, is_32_bits, is_length, column_form_of, column_form, has_role, has_tablespace, has_schema, has_enum, schema_is, kind_stands, column_stands, live_in, key_stands}
+use Rattle.catalog.specs.Forms.{is_name, is_32_bits, is_length, column_form_of, column_form, has_role, has_tablespace, has_schema, has_enum, schema_is, kind_stands, column_stands, key_stands}
 use Rattle.catalog.specs.Refusals.{is_system_number}
 use Rattle.catalog.specs.Valid.{is_user_number, DatabaseHead, head_of, role_is_valid, tablespace_is_valid, head_is_valid, IsValid}
 use Rattle.dump_grammar.specs.declared.statement.Statement.{Statement}
@@ -105,15 +105,15 @@ bytes_are enums (c ∷ cs) h =
 
 -- ---- keys
 
-live_within : (cs : List Column) (i : ℕ) (o : Option Column) → slice_get cs i ≡ o → live_in o ≡ true → i < length cs
-live_within cs i None e h = absurd cc
-live_within cs i (Some c) e h = within cs i c e
+column_within : (cs : List Column) (i : ℕ) (o : Option Column) → slice_get cs i ≡ o → is_some o ≡ true → i < length cs
+column_within cs i None e h = absurd cc
+column_within cs i (Some c) e h = within cs i c e
 
 key_is : (cs : List Column) (k : ℕ) → length cs ≤ 1600 → key_stands cs k ≡ true → nat_le k 65535 ≡ true
 key_is cs k le h =
-    let a = both_true (nat_lt 0 k) (live_in (slice_get cs (k - 1))) h in
+    let a = both_true (nat_lt 0 k) (is_some (slice_get cs (k - 1))) h in
     let p = ltb-true 0 k a.0 in
-    let i = live_within cs (k - 1) (slice_get cs (k - 1)) refl a.1 in
+    let i = column_within cs (k - 1) (slice_get cs (k - 1)) refl a.1 in
     le-leb k 65535 (omega arith)
 
 pub keys_are : (cs : List Column) (ks : List ℕ) → length cs ≤ 1600 → list_all (key_stands cs) ks ≡ true → list_all (λ k. nat_le k 65535) ks ≡ true
