@@ -4,26 +4,34 @@ ghost use Rattle.dump_grammar.specs.declared.error.TextCause.TheVariants.{OutOfM
 use catalog::CatalogError;
 use dump_lex::LexKind;
 use std::alloc::{AllocError, AllocFailed};
+use thiserror::Error;
 
 /// Why a catalog text is refused. Of one statement the causes are tested in the order of the first four.
-#[derive(Clone, Copy, Debug, PartialEq, Eq)]
+#[derive(Clone, Copy, Debug, PartialEq, Eq, Error)]
 pub enum TextCause {
     /// No token stands where one should.
+    #[error("{0}")]
     Lex(LexKind),
     /// The tokens are no statement.
+    #[error("no statement")]
     UnknownStatement,
     /// A number that the statement takes wasn't set.
+    #[error("a number isn't set")]
     MissingOid,
     /// The catalog refuses what the statement makes. `OutOfMemory` never stands here.
+    #[error("{0}")]
     Catalog(CatalogError),
     /// There is no catalog text. Only a catalog server answers it, at line 0.
+    #[error("no catalog text")]
     NoCatalog,
     /// Memory lacked.
+    #[error("out of memory")]
     OutOfMemory,
 }
 
 /// Why a catalog text is refused, and where.
-#[derive(Clone, Copy, Debug, PartialEq, Eq)]
+#[derive(Clone, Copy, Debug, PartialEq, Eq, Error)]
+#[error("line {line}: {cause}")]
 pub struct TextError {
     /// From 1: the line of the first token of the statement, or with `Lex` that of the byte at which no token begins.
     /// 0 where the cause isn't one of the text.

@@ -1,5 +1,7 @@
 //! Tokens, and why there is none.
 
+use thiserror::Error;
+
 /// The kinds of token.
 #[derive(Clone, Copy, Debug, PartialEq, Eq)]
 pub enum TokenKind {
@@ -32,23 +34,29 @@ pub struct Token<'a> {
 }
 
 /// Why no token stands where one should.
-#[derive(Clone, Copy, Debug, PartialEq, Eq)]
+#[derive(Clone, Copy, Debug, PartialEq, Eq, Error)]
 pub enum LexKind {
     /// No token begins with the byte.
+    #[error("no token begins with this byte")]
     BadByte,
     /// An opening `"`, `'` or `x'` has no closing mark.
+    #[error("a quote isn't closed")]
     Unclosed,
     /// A run of digits is no number.
+    #[error("no number")]
     BadNumber,
     /// Between `x'` and the next `'` stand other than pairs of digits.
+    #[error("no pairs of hex digits")]
     BadHex,
     /// A plain word is longer than 63 bytes, or a closed quoted name is empty, longer than 63 bytes or has a
     /// zero byte.
+    #[error("no name")]
     BadName,
 }
 
 /// Why there is no token, with the line of the byte at which one should begin, from 1.
-#[derive(Clone, Copy, Debug, PartialEq, Eq)]
+#[derive(Clone, Copy, Debug, PartialEq, Eq, Error)]
+#[error("line {line}: {kind}")]
 pub struct LexError {
     pub line: u64,
     pub kind: LexKind,

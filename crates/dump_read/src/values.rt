@@ -1,31 +1,17 @@
 // The values that words write.
 
-ghost use Rattle.std.specs.Prelude.{◌≡◌, nat_lt};
-ghost use Rattle.std.specs.List.{list_all};
+ghost use Rattle.std.specs.Prelude.{◌≡◌};
 ghost use Rattle.fs_model.specs.PathText.{path_in};
-ghost use Rattle.dump_lex.specs.Value.{is_name};
 ghost use Rattle.dump_grammar.specs.Spelling.{is_name_kind, word_of};
 ghost use Rattle.dump_read.specs.Answer.{Answers};
 ghost use Rattle.dump_read.specs.Takes.{named, name_in, number_in, string_in, path_of, location_in, hex_in, fixed_length, length_in, key_of, column_number_in, one};
 
 use crate::refusal::Refusal;
 use crate::words::{Words, is_key};
+use catalog::is_name;
 use dump_lex::{Token, TokenKind, bytes_of, name_of, number_of, string_of};
 use fs_model::{Bytes, Path, PathError, Text};
 use std::alloc::Global;
-
-fn all_nonzero(bytes: &[u8]) -> bool
-    ensures { result ≡ list_all (λ b. nat_lt 0 b) bytes.now }
-{
-    bytes.iter().all(|b| 0 < *b)
-}
-
-fn is_name(bytes: &[u8]) -> bool
-    ensures { result ≡ is_name bytes.now }
-{
-    let whole = all_nonzero(bytes);
-    0 < bytes.len() && bytes.len() <= 63 && whole
-}
 
 fn is_name_kind(kind: TokenKind) -> bool
     ensures { result ≡ is_name_kind kind }

@@ -7,9 +7,11 @@
 mod laws;
 mod printer;
 
+pub use catalog::CatalogError;
 pub use dump_grammar::{
     ColumnText, ColumnTexts, NamedKind, NextKind, Statement, TextCause, TextError,
 };
+pub use dump_lex::LexKind;
 pub use dump_read::read_statement;
 pub use dump_replay::{load, replay};
 pub use laws::{canonical_is_loaded, canonical_leads};
