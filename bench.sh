@@ -4,8 +4,11 @@
 # script, the best of three each, with files that were just read.
 # bench.sh [FOLDER [RELATIONS]]: a folder that doesn't stand yet, on the disk that is measured; it is removed at the end.
 # ./sample.sh --proved builds the two programs.
+# bench.sh catalog: measures instead how catalog texts that it makes itself are loaded and printed, by the proved program
+# load_text, which it builds once.
 set -u
 top=$(cd "$(dirname "$0")" && pwd)
+[ "${1:-}" = catalog ] && exec "$top/bench_catalog.sh"
 folder=${1:-$(mktemp -u -d "${TMPDIR:-/tmp}/upgrade_bench.XXXXXX")}
 relations=${2:-1000}
 upgrade=$top/crates/upgrade_cli/out/upgrade_cli
