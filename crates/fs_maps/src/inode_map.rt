@@ -69,6 +69,14 @@ impl<V: Drop> InodeMap<V> {
         self.entries.remove(&inode);
     }
 
+    /// Takes away what the map has at an inode, and gives it.
+    pub fn take(&mut self, inode: u64) -> Option<V>
+        ensures value { result ≡ map.get self.old inode }
+        ensures rest { self.new ≡ map.remove self.old inode }
+    {
+        self.entries.remove(&inode)
+    }
+
     /// The numbers, in ascending order.
     pub fn inodes(&self, alloc: Global) -> Result<Vec<u64>, AllocError>
         ensures { IfOk result (λ inodes. inodes.items ≡ map.keys self.now) }

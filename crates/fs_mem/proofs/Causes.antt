@@ -18,9 +18,8 @@ use Rattle.std.proofs.lemmas.Grind.{common_steps}
 use Rattle.fs_state.proofs.Preserved.{same_cases}
 use Rattle.fs_state.proofs.Ways.{or_else_none}
 use Rattle.fs_mem.proofs.Replay.{may_do, state_after_push}
-use Rattle.fs_mem.specs.declared.history.Done.{Done}
 use Rattle.fs_mem.specs.declared.history.Failing.{Failing}
-use Rattle.fs_mem.specs.History.{History, Answers, Ends, listed, is_fault, is_refusal, is_firm, none_listed, spoiled, counts_of, depth_of, longest, present_of, one_done, one_lack}
+use Rattle.fs_mem.specs.History.{Done, History, Answers, Ends, listed, is_fault, is_refusal, is_firm, none_listed, spoiled, counts_of, depth_of, longest, present_of, one_done, one_lack}
 
 -- no failure and no want of memory
 abbrev IsOrdinary : Option FsError → Type 0

@@ -3,3 +3,4 @@ pub mod Causes
 pub mod Opens
 pub mod Faults
 pub mod Putting
+pub mod Told

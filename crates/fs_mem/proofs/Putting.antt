@@ -1,5 +1,5 @@
 -- What a put left is what stood there and a first part of its bytes.
-use Rattle.std.proofs.Common.{◌≡◌, ◌++◌, ℕ, List, [], length, take, Result, Ok, Err, sym, ◌∙◌, ap, arith, take_all}
+use Rattle.std.proofs.Common.{◌≡◌, ◌++◌, ℕ, List, length, Result, Ok, Err, sym, ◌∙◌, ap, arith, take_all}
 use Rattle.std.specs.Prelude.{OnOk}
 use Rattle.std.proofs.lemmas.List.{append-nil}
 use Rattle.fs_model.specs.declared.error.SinkError.{SinkError}

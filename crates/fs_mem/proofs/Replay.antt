@@ -13,8 +13,7 @@ use Rattle.fs_model.specs.Calls.{Call, Stats, Lists, ReadsAt, ReadsLink, Creates
 use Rattle.fs_model.specs.WellFormed.{WellFormed}
 use Rattle.fs_model.specs.Trail.{Steps, grown}
 use Rattle.fs_state.specs.Wants.{Wants, HasBytes, Tests}
-use Rattle.fs_mem.specs.declared.history.Done.{Done}
-use Rattle.fs_mem.specs.History.{History, Answers, Ends, failed_effect, spoiled, listed, read_only, state_after, past_after, StaysWellFormed, present_of, trail_of, one_done}
+use Rattle.fs_mem.specs.History.{Done, History, Answers, Ends, failed_effect, spoiled, listed, read_only, state_after, past_after, StaysWellFormed, present_of, trail_of, one_done}
 
 pub state_after_push : (s : FsState) (done : List Done) (d : Done) → state_after s (done ++ d ∷ []) ≡ apply (state_after s done) d.effect
 state_after_push s [] d = refl

@@ -12,8 +12,12 @@ use Rattle.fs_model.specs.Calls.{Call, refusal}
 use Rattle.fs_model.specs.Trail.{Trail, Counts}
 use Rattle.fs_model.specs.WellFormed.{WellFormed}
 use Rattle.fs_state.specs.Wants.{Wants, HasBytes}
-use Rattle.fs_mem.specs.declared.history.Done.{Done}
 use Rattle.fs_mem.specs.declared.history.Failing.{Failing}
+
+-- what a call did, and the error that it answered
+pub record Done : Type 0 where
+  pub effect : Effect
+  pub answer : Option FsError
 
 pub record History : Type 0 where
   pub opening : FsState

@@ -113,7 +113,7 @@ impl Fs for MemFs {
     {
         let state = self.open()?;
         let wanted = changing::write_at(self.alloc(), &state, at, from, bytes);
-        self.close(state, wanted)
+        self.close_action(state, wanted)
     }
 
     fn make_dir(&mut self, at: &Path) -> Result<(), FsError>

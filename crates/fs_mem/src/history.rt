@@ -1,10 +1,11 @@
 // The record of the calls of a file system in memory.
-use fs_model::{Effect, FsError};
+use fs_model::FsError;
+use fs_state::Action;
 
-/// What a call did, and the error that it answered.
+/// What a call did, as it is recorded, and the error that it answered.
 #[derive(Drop)]
-pub struct Done {
-    pub effect: Effect,
+pub struct Recorded {
+    pub action: Action,
     pub answer: Option<FsError>,
 }
 

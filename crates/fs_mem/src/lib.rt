@@ -13,7 +13,7 @@ mod tree;
 
 pub use error::{ImageError, TreeError};
 pub use fs_state::Pick;
-pub use history::{Done, Failing};
+pub use history::Failing;
 pub use laws::{entries_stand, faults_come_in_order};
 pub use mem_fs::MemFs;
 pub use mem_sink::MemSink;

@@ -1,21 +1,24 @@
 // The opening state, the record of the calls since, and the present state, which they lead to.
-ghost use Rattle.std.specs.Prelude.{◌≡◌, ◌≢◌, OnOk, OnErr, IfOk, IfErr, [], None, Some, Ok, IsOk, length, ◌≤◌, ◌<◌, ◌↔◌, ◌^◌, ◌-◌, IsErrOf};
+ghost use Rattle.std.specs.Prelude.{ℕ, ◌≡◌, ◌≢◌, OnOk, OnErr, IfOk, IfErr, [], None, Some, Ok, IsOk, length, take, ◌≤◌, ◌<◌, ◌↔◌, ◌^◌, ◌-◌, IsErrOf};
 ghost use Rattle.fs_model.specs.declared.error.FsError.TheVariants.{OutOfMemory};
 ghost use Rattle.fs_model.specs.Calls.{Call};
 ghost use Rattle.fs_model.specs.Crash.{Image, Settled};
 ghost use Rattle.fs_model.specs.Effects.{apply};
 ghost use Rattle.fs_model.specs.Trail.{error_of};
 ghost use Rattle.fs_model.specs.WellFormed.{WellFormed};
+ghost use Rattle.fs_state.specs.Actions.{effect_in, effect_wanted};
 ghost use Rattle.fs_state.specs.Images.{image_of};
 ghost use Rattle.fs_state.specs.Wants.{Wants, HasBytes};
 ghost use Rattle.fs_mem.specs.History.{failed_effect, listed, Answers, Ends, IsWanted, read_only, state_after, present_of, state_at, opens, one_lack, one_done};
+ghost use Rattle.fs_mem.specs.Records.{told_from};
 ghost use Rattle.fs_mem.specs.Tree.{tree_fault, opening_of, tree_of};
 
+use crate::history::Recorded;
 use crate::opening::opened;
 use crate::tree::standing;
-use crate::{Done, Failing, ImageError, Tree, TreeError};
-use fs_model::{Bytes, Effect, FsError};
-use fs_state::{Pick, State};
+use crate::{Failing, ImageError, Tree, TreeError};
+use fs_model::{Effect, FsError};
+use fs_state::{Action, Pick, State, changing};
 use std::alloc::{AllocError, Global};
 use std::marker::Model;
 
@@ -24,7 +27,8 @@ use std::marker::Model;
 pub struct MemFs {
     alloc: Global,
     opening: State,
-    done: Vec<Done>,
+    // a write is recorded with the bytes that it wrote, and not with those of the whole file
+    done: Vec<Recorded>,
     lacks: u64,
     // None where memory lacked while it was changed; the next call makes it again from the record
     present: Option<State>,
@@ -33,44 +37,53 @@ pub struct MemFs {
 
 impl Model for MemFs {
     ghost use Rattle.fs_mem.specs.History.{History, IsHeld};
+    ghost use Rattle.fs_mem.specs.Records.{told_from};
     ghost use Rattle.fs_mem.specs.Code.{history_code};
 
     ghost Value = { History };
 
     ghost coded = { history_code };
 
-    ghost view = { λ a. record { opening = a.opening; done = a.done.items; lacks = a.lacks; failing = a.failing.items } };
+    ghost view = { λ a. record { opening = a.opening; done = told_from a.opening a.done.items; lacks = a.lacks; failing = a.failing.items } };
 
-    ghost invariant = { λ a. IsHeld a.present a.opening a.done.items };
+    ghost invariant = { λ a. IsHeld a.present a.opening (told_from a.opening a.done.items) };
 }
 
 // The state that the calls lead to.
-fn replayed(alloc: Global, opening: &State, done: &[Done]) -> Result<State, AllocError>
-    ensures { IfOk result (λ s. s ≡ state_after opening.now done.now) }
+fn replayed(alloc: Global, opening: &State, done: &[Recorded]) -> Result<State, AllocError>
+    ensures { IfOk result (λ s. s ≡ state_after opening.now (told_from opening.now done.now)) }
 {
     let mut state = opening.clone()?;
-    for d in done {
-        state.apply(alloc, &d.effect)?;
+    for r in done {
+        state.apply(alloc, &r.action)?;
     }
     Ok(state)
 }
 
+// Whether the call of this number is listed to fail, and with its effect.
+fn listed_at(failing: &[Failing], number: u64) -> Option<bool>
+    ensures { result ≡ listed failing.now number }
+{
+    for f in failing {
+        if f.call == number {
+            return Some(f.effect);
+        }
+    }
+    None
+}
+
 // What a call does that is listed to fail.
-fn failing_effect(
-    alloc: Global,
-    state: &State,
-    wanted: Effect,
-    with_effect: bool,
-) -> Result<Effect, AllocError>
-    ensures effect { IfOk result (λ effect. effect ≡ failed_effect state.now with_effect wanted) }
-    ensures bytes { HasBytes wanted → IfOk result HasBytes }
+fn failing_action(alloc: Global, state: &State, wanted: Action, with_effect: bool) -> Action
+    ensures effect { effect_in state.now result ≡ failed_effect state.now with_effect (effect_in state.now wanted) }
+    ensures bytes { HasBytes (effect_in state.now wanted) → HasBytes (effect_in state.now result) }
 {
     if with_effect {
-        return Ok(wanted);
+        return wanted;
     }
     match wanted {
-        Effect::Bytes(inode, _) => Ok(Effect::Bytes(inode, state.bytes_copy(alloc, inode)?)),
-        _ => Ok(Effect::Nothing),
+        Action::Effect(Effect::Bytes(inode, _)) => changing::write_nothing(alloc, state, inode),
+        Action::Write { inode, .. } => changing::write_nothing(alloc, state, inode),
+        Action::Effect(_) => Action::Effect(Effect::Nothing),
     }
 }
 
@@ -78,29 +91,29 @@ fn failing_effect(
 fn ended(
     alloc: Global,
     state: &State,
-    wanted: Result<Effect, FsError>,
+    wanted: Result<Action, FsError>,
     listed: Option<bool>,
-) -> Result<Done, AllocError>
-    ensures answers { IfOk result (λ d. (call : Call) → Wants state.now call wanted → Answers state.now listed call d.answer d.effect) }
-    ensures not_memory { IfOk result (λ d. d.answer ≢ Some OutOfMemory) }
-    ensures refused { IfOk result (λ d. d.answer ≡ None → IsOk wanted) }
+) -> Result<Recorded, AllocError>
+    ensures answers { IfOk result (λ r. (call : Call) → Wants state.now call (effect_wanted state.now wanted) → Answers state.now listed call r.answer (effect_in state.now r.action)) }
+    ensures not_memory { IfOk result (λ r. r.answer ≢ Some OutOfMemory) }
+    ensures refused { IfOk result (λ r. r.answer ≡ None → IsOk wanted) }
 {
     match (wanted, listed) {
         (Err(FsError::OutOfMemory), _) => Err(AllocError),
-        (Err(_), Some(_)) => Ok(Done {
-            effect: Effect::Nothing,
+        (Err(_), Some(_)) => Ok(Recorded {
+            action: Action::Effect(Effect::Nothing),
             answer: Some(FsError::Failed),
         }),
-        (Err(error), None) => Ok(Done {
-            effect: Effect::Nothing,
+        (Err(error), None) => Ok(Recorded {
+            action: Action::Effect(Effect::Nothing),
             answer: Some(error),
         }),
-        (Ok(effect), None) => Ok(Done {
-            effect,
+        (Ok(action), None) => Ok(Recorded {
+            action,
             answer: None,
         }),
-        (Ok(effect), Some(with_effect)) => Ok(Done {
-            effect: failing_effect(alloc, state, effect, with_effect)?,
+        (Ok(action), Some(with_effect)) => Ok(Recorded {
+            action: failing_action(alloc, state, action, with_effect),
             answer: Some(FsError::Failed),
         }),
     }
@@ -139,6 +152,28 @@ impl MemFs {
         Ok(standing(alloc, &state)?)
     }
 
+    // Lends the record, which tells the calls.
+    fn recorded(&self) -> &[Recorded]
+        ensures told { (moment : ℕ) → told_from self.now.opening (take moment result.now) ≡ take moment self.now.done }
+        ensures count { length result.now ≡ length self.now.done }
+    {
+        &self.done
+    }
+
+    // The state after that many calls. `NoMoment` comes exactly where there were fewer.
+    fn state_at(&self, alloc: Global, moment: u64) -> Result<State, ImageError>
+        ensures state { IfOk result (λ s. s ≡ state_at self.now moment) }
+        ensures well_formed { IfOk result WellFormed }
+        ensures no_moment { IsErrOf result ImageError.NoMoment ↔ (length self.now.done < moment) }
+    {
+        let recorded = self.recorded();
+        if moment > recorded.len() as u64 {
+            return Err(ImageError::NoMoment);
+        }
+        let state = replayed(alloc, &self.opening, &recorded[..moment as usize])?;
+        Ok(state)
+    }
+
     /// What a crash leaves of the state after that many calls: the image that the pick names. It fails nothing.
     /// `NoMoment` comes exactly where there were fewer calls.
     pub fn image(&self, alloc: Global, moment: u64, pick: &Pick) -> Result<MemFs, ImageError>
@@ -147,10 +182,7 @@ impl MemFs {
         ensures settled { IfOk result (λ m. Settled m.opening) }
         ensures no_moment { IsErrOf result ImageError.NoMoment ↔ (length self.now.done < moment) }
     {
-        if moment > self.done.len() as u64 {
-            return Err(ImageError::NoMoment);
-        }
-        let state = replayed(alloc, &self.opening, &self.done[..moment as usize])?;
+        let state = self.state_at(alloc, moment)?;
         let opening = state.image(alloc, pick)?;
         Ok(MemFs {
             alloc,
@@ -174,7 +206,7 @@ impl MemFs {
         ensures well_formed { WellFormed (present_of self.now) }
     {
         let _ = &self.present;
-        self.done.len() as u64
+        self.recorded().len() as u64
     }
 
     // Memory lacked.
@@ -208,30 +240,50 @@ impl MemFs {
     fn listed_now(&self) -> Option<bool>
         ensures { result ≡ listed self.now.failing (length self.now.done) }
     {
-        let number = self.done.len() as u64;
-        for f in &self.failing {
-            if f.call == number {
-                return Some(f.effect);
-            }
-        }
-        None
+        listed_at(&self.failing, self.count())
     }
 
     // Adds a call to the record, and has its effect.
-    fn keep(&mut self, state: State, d: Done) -> Result<(), AllocError>
+    fn keep(&mut self, state: State, r: Recorded) -> Result<(), AllocError>
         requires present { state ≡ present_of self.old }
-        requires well_formed { WellFormed (apply state d.effect) }
-        ensures ok { OnOk result (self.new ≡ one_done self.old d.effect d.answer) }
+        requires well_formed { WellFormed (apply state (effect_in state r.action)) }
+        ensures ok { OnOk result (self.new ≡ one_done self.old (effect_in state r.action) r.answer) }
         ensures err { OnErr result (self.new ≡ self.old) }
     {
         let mut state = state;
-        state.apply(self.alloc, &d.effect)?;
-        self.done.push(d)?;
+        state.apply(self.alloc, &r.action)?;
+        self.done.push(r)?;
         self.present = Some(state);
         Ok(())
     }
 
     /// Ends a call that wants this.
+    pub(crate) fn close_action(
+        &mut self,
+        state: State,
+        wanted: Result<Action, FsError>,
+    ) -> Result<(), FsError>
+        requires present { state ≡ present_of self.old }
+        requires well_formed { WellFormed state }
+        requires wanted { IsWanted state (effect_wanted state wanted) }
+        ensures ends { (call : Call) → Wants state call (effect_wanted state wanted) → Ends self.old call (error_of result) self.new }
+        ensures refused { OnOk result (IsOk wanted) }
+    {
+        let r = match ended(self.alloc, &state, wanted, self.listed_now()) {
+            Ok(r) => r,
+            Err(_) => return Err(self.lack()),
+        };
+        let answer = r.answer;
+        match self.keep(state, r) {
+            Ok(()) => match answer {
+                None => Ok(()),
+                Some(error) => Err(error),
+            },
+            Err(_) => Err(self.lack()),
+        }
+    }
+
+    /// Ends a call that wants this effect.
     pub(crate) fn close(
         &mut self,
         state: State,
@@ -243,17 +295,9 @@ impl MemFs {
         ensures ends { (call : Call) → Wants state call wanted → Ends self.old call (error_of result) self.new }
         ensures refused { OnOk result (IsOk wanted) }
     {
-        let d = match ended(self.alloc, &state, wanted, self.listed_now()) {
-            Ok(d) => d,
-            Err(_) => return Err(self.lack()),
-        };
-        let answer = d.answer;
-        match self.keep(state, d) {
-            Ok(()) => match answer {
-                None => Ok(()),
-                Some(error) => Err(error),
-            },
-            Err(_) => Err(self.lack()),
+        match wanted {
+            Ok(effect) => self.close_action(state, Ok(Action::Effect(effect))),
+            Err(error) => self.close_action(state, Err(error)),
         }
     }
 

@@ -3,3 +3,4 @@ pub mod Ways
 pub mod Kept
 pub mod Chosen
 pub mod Imaged
+pub mod Writing

@@ -1,10 +1,12 @@
 //! The effect that each call has in a state, or why it is refused.
-ghost use Rattle.std.specs.Prelude.{◌≡◌, ◌+◌, ◌-◌, ◌≤◌, ◌^◌, length, IfOk, OnOk};
+ghost use Rattle.std.specs.Prelude.{◌≡◌, IfOk};
 ghost use Rattle.fs_model.specs.Calls.{Creates, WritesAt, MakesDir, MakesSymlink, Links, Renames, Unlinks, RemovesDir, SyncsFile, SyncsDir, AreBytes, overwritten, crosses, is_root};
-ghost use Rattle.fs_state.specs.Wants.{Wants};
+ghost use Rattle.fs_model.specs.Effects.{bytes_of};
+ghost use Rattle.fs_state.specs.Actions.{effect_in, effect_wanted};
+ghost use Rattle.fs_state.specs.Wants.{Wants, HasBytes};
 
-use crate::State;
 use crate::refusing::{test_dir, test_file, test_free, test_leaf, test_way};
+use crate::{Action, State};
 use fs_model::{Bytes, Effect, FsError, NameChange, Node, Path};
 use std::alloc::{AllocError, Global};
 
@@ -18,19 +20,11 @@ pub fn create(alloc: Global, state: &State, at: &Path) -> Result<Effect, FsError
     Ok(Effect::NewFile(at.clone()?, inode))
 }
 
-// Bytes with others written over them from a place on.
-fn write_over(alloc: Global, old: &[u8], from: usize, bytes: &[u8]) -> Result<Vec<u8>, AllocError>
-    requires { from + length bytes.now ≤ 2 ^ 63 - 1 }
-    ensures value { IfOk result (λ new. new.items ≡ overwritten old.now from bytes.now) }
-    ensures bytes { OnOk result (AreBytes (overwritten old.now from bytes.now)) }
+// Bytes written over others are bytes.
+fn test_bytes(old: &[u8], from: u64, bytes: &[u8])
+    ensures { AreBytes (overwritten old.now from bytes.now) }
 {
-    let mut new = old[..from.min(old.len())].to_vec(alloc)?;
-    new.resize(from, 0)?;
-    new.extend_from_slice(bytes)?;
-    if from + bytes.len() < old.len() {
-        new.extend_from_slice(&old[from + bytes.len()..])?;
-    }
-    Ok(new)
+    let _ = (old.len(), bytes.len());
 }
 
 /// The bytes stand in the file from the place on; a gap before them is zeros.
@@ -40,14 +34,30 @@ pub fn write_at(
     at: &Path,
     from: u64,
     bytes: &[u8],
-) -> Result<Effect, FsError>
-    requires { from + length bytes.now ≤ 2 ^ 63 - 1 }
-    ensures { Wants state.now (WritesAt at.now from bytes.now) result }
+) -> Result<Action, FsError>
+    ensures { Wants state.now (WritesAt at.now from bytes.now) (effect_wanted state.now result) }
 {
     test_way(alloc, state.names(), at)?;
     let inode = test_file(state.node(at))?;
-    let new = write_over(alloc, state.bytes(inode), from as usize, bytes)?;
-    Ok(Effect::Bytes(inode, Bytes::new(new)))
+    test_bytes(state.bytes(inode), from, bytes);
+    Ok(Action::Write {
+        inode,
+        from,
+        bytes: Bytes::new(bytes.to_vec(alloc)?),
+    })
+}
+
+/// A write of nothing, which leaves the inode the bytes that it has.
+pub fn write_nothing(alloc: Global, state: &State, inode: u64) -> Action
+    ensures effect { effect_in state.now result ≡ Effect.Bytes inode (bytes_of state.now.bytes inode) }
+    ensures bytes { HasBytes (effect_in state.now result) }
+{
+    test_bytes(state.bytes(inode), 0, &[]);
+    Action::Write {
+        inode,
+        from: 0,
+        bytes: Bytes::new(Vec::new(alloc)),
+    }
 }
 
 /// A new directory on its parent's device.

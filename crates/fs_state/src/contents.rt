@@ -1,6 +1,6 @@
 // The bytes of files.
-ghost use Rattle.std.specs.Prelude.{◌≡◌, IfOk};
-ghost use Rattle.fs_model.specs.Calls.{AreBytes};
+ghost use Rattle.std.specs.Prelude.{◌≡◌, IfOk, OnOk};
+ghost use Rattle.fs_model.specs.Calls.{AreBytes, overwritten};
 ghost use Rattle.fs_model.specs.Effects.{bytes_of};
 
 use fs_maps::InodeMap;
@@ -28,4 +28,17 @@ pub(crate) fn bytes_in(
         Some(bytes) => bytes_of_slice(alloc, bytes.bytes()),
         None => bytes_of_slice(alloc, &[]),
     }
+}
+
+/// Writes bytes over others from a place on; a gap before them is zeros. After an error it is not said what they are.
+pub(crate) fn write_over(old: &mut Vec<u8>, from: usize, bytes: &[u8]) -> Result<(), AllocError>
+    ensures { OnOk result (old.new.items ≡ overwritten old.old.items from bytes.now) }
+{
+    if bytes.len() <= old.len() && from <= old.len() - bytes.len() {
+        old[from..from + bytes.len()].copy_from_slice(bytes);
+        return Ok(());
+    }
+    old.resize(from, 0)?;
+    old.extend_from_slice(bytes)?;
+    Ok(())
 }

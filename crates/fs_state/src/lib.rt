@@ -2,6 +2,7 @@
 //! it is refused; and the images that a crash may leave. The contracts are those of the definitions of `fs_model`.
 #![tactic(auto)]
 
+mod action;
 pub mod changing;
 mod contents;
 mod image;
@@ -12,6 +13,7 @@ pub mod reading;
 mod refusing;
 mod state;
 
+pub use action::Action;
 pub use laws::{
     calls_keep_well_formed, every_image_has_a_pick, images_are_settled, images_are_well_formed,
 };

@@ -3,17 +3,18 @@ ghost use Rattle.std.specs.Prelude.{◌≡◌, ◌≢◌, ◌-◌, ◌^◌, true
 ghost use Rattle.std.specs.Option.{option_copied};
 ghost use Rattle.std.specs.FinMap as map;
 ghost use Rattle.fs_model.specs.declared.error.FsError.TheVariants.{OutOfMemory};
-ghost use Rattle.fs_model.specs.Calls.{device_of, AreBytes};
+ghost use Rattle.fs_model.specs.Calls.{device_of, overwritten, AreBytes};
 ghost use Rattle.fs_model.specs.Crash.{Image};
 ghost use Rattle.fs_model.specs.Effects.{apply, bytes_of, with_change, with_bytes};
+ghost use Rattle.fs_state.specs.Actions.{effect_in};
 ghost use Rattle.fs_state.specs.Images.{image_of};
 ghost use Rattle.fs_state.specs.Settled.{settled};
 ghost use Rattle.fs_state.specs.Wants.{IsNextInode};
 
-use crate::Pick;
-use crate::contents::bytes_in;
+use crate::contents::{bytes_in, write_over};
 use crate::image::{change_picked, reached_names, torn_bytes};
 use crate::names::{change_names, keep_names};
+use crate::{Action, Pick};
 use fs_maps::{InodeMap, PathMap};
 use fs_model::{Bytes, Effect, FsError, NameChange, Node, Path};
 use std::alloc::{AllocError, Global};
@@ -161,6 +162,33 @@ impl State {
         Ok(())
     }
 
+    // Takes the bytes of an inode out, where it has any.
+    fn taken(&mut self, alloc: Global, inode: u64) -> Vec<u8>
+        ensures value { result.items ≡ bytes_of self.old.bytes inode }
+        ensures rest { self.new ≡ record self.old { bytes = map.remove self.old.bytes inode } }
+    {
+        match self.bytes.take(inode) {
+            Some(bytes) => bytes.into_vec(),
+            None => Vec::new(alloc),
+        }
+    }
+
+    // Writes bytes over those of an inode from a place on, in place.
+    fn overwrite(
+        &mut self,
+        alloc: Global,
+        inode: u64,
+        from: u64,
+        bytes: &[u8],
+    ) -> Result<(), AllocError>
+        ensures { OnOk result (self.new ≡ with_bytes self.old inode (overwritten (bytes_of self.old.bytes inode) from bytes.now)) }
+    {
+        let mut items = self.taken(alloc, inode);
+        write_over(&mut items, from as usize, bytes)?;
+        self.write(inode, Bytes::new(items))?;
+        Ok(())
+    }
+
     /// The image that the pick names: what a crash leaves.
     pub fn image(&self, alloc: Global, pick: &Pick) -> Result<State, AllocError>
         ensures picked { IfOk result (λ x. x ≡ image_of self.now pick.now) }
@@ -180,8 +208,20 @@ impl State {
         Ok(image)
     }
 
-    /// Has the effect.
-    pub fn apply(&mut self, alloc: Global, effect: &Effect) -> Result<(), AllocError>
+    /// Has the effect of the action. A write costs what it writes, and not what the file has.
+    pub fn apply(&mut self, alloc: Global, action: &Action) -> Result<(), AllocError>
+        ensures { OnOk result (self.new ≡ apply self.old (effect_in self.old action.now)) }
+    {
+        match action {
+            Action::Effect(effect) => self.have(alloc, effect),
+            Action::Write { inode, from, bytes } => {
+                self.overwrite(alloc, *inode, *from, bytes.bytes())
+            }
+        }
+    }
+
+    // Has the effect.
+    fn have(&mut self, alloc: Global, effect: &Effect) -> Result<(), AllocError>
         ensures { OnOk result (self.new ≡ apply self.old effect.now) }
     {
         match effect {

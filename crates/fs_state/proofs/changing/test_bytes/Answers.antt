@@ -3,13 +3,13 @@ use Rattle.std.specs.Prelude.{◌<◌, ℕ}
 use Rattle.std.proofs.lemmas.Grind.{get_or_default_zero}
 use Rattle.std.proofs.lemmas.List.Elements.{All-append, All-take, All-drop, All-replicate}
 use Rattle.fs_model.specs.Calls.{AreBytes}
-use Rattle.fs_state.proofs.changing.write_over.Goals as goal
+use Rattle.fs_state.proofs.changing.test_bytes.Goals as goal
 
 are_bytes : (items : List ℕ) → ((i : ℕ) → Fits w8 (get_or items i 0)) → AreBytes items
 are_bytes items fit k d within = rw (get_or_default_zero items k d within) (search (rules, fit k))
 
-pub returns-clause-bytes : goal.returns-clause-bytes
-returns-clause-bytes c =
+pub returns : goal.returns
+returns c =
     let old = c.args.old.now in
     let new = c.args.bytes.now in
     let from = c.args.from in

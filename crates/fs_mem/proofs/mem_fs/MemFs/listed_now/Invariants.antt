@@ -1,6 +1,0 @@
-use Rattle.std.proofs.Common.{◌≡◌, drop}
-use Rattle.fs_mem.specs.History.{listed}
-use Rattle.fs_mem.proofs.mem_fs.MemFs.listed_now.Given as goal
-
-abbrev pub invariant-loop-f : goal.invariant-loop-f
-invariant-loop-f l = listed (drop l.f-index l.f-items) l.number ≡ listed l.f-items l.number
