@@ -42,10 +42,64 @@ fn made<F: Fs>(alloc: Global, fs: &mut F, at: &Path, text: &str) -> Result<Strin
     word(alloc, "ok")
 }
 
-// How many bytes were copied, two at a time.
-fn copied<F: Fs>(alloc: Global, fs: &mut F, from: &Path, to: &Path) -> Result<String, FsError> {
-    let count = copy_file(fs, from, to, &mut [0u8; 2])?;
+// A file of so many bytes, of which each is the remainder of its place by 251.
+fn filled<F: Fs>(alloc: Global, fs: &mut F, at: &Path, size: u32) -> Result<String, FsError> {
+    let mut bytes = Vec::new(alloc);
+    for place in 0..size {
+        bytes.push((place % 251) as u8)?;
+    }
+    make_file(fs, at, &bytes)?;
+    word(alloc, "ok")
+}
+
+// How many bytes were copied through this buffer.
+fn copied<F: Fs>(
+    alloc: Global,
+    fs: &mut F,
+    from: &Path,
+    to: &Path,
+    buffer: &mut [u8],
+) -> Result<String, FsError> {
+    if buffer.is_empty() {
+        return word(alloc, "no buffer");
+    }
+    let count = copy_file(fs, from, to, buffer)?;
     Ok(format!(in alloc; "{count}")?)
+}
+
+// The same through a buffer of so many bytes.
+fn copied_by<F: Fs>(
+    alloc: Global,
+    fs: &mut F,
+    from: &Path,
+    to: &Path,
+    size: u32,
+) -> Result<String, FsError> {
+    let mut buffer = vec![in alloc; 0u8; size as usize]?;
+    copied(alloc, fs, from, to, &mut buffer)
+}
+
+// The words are the new path, and of how many bytes the buffer is, if it isn't of two.
+fn copied_to<F: Fs>(
+    alloc: Global,
+    fs: &mut F,
+    from: &Path,
+    words: &str,
+) -> Result<String, FsError> {
+    let (to, size) = words.split_once(' ').unwrap_or((words, "2"));
+    copied_by(alloc, fs, from, &path(alloc, "", to)?, number(size)?)
+}
+
+// Whether a file has these bytes.
+fn has_bytes<F: Fs>(alloc: Global, fs: &mut F, at: &Path, bytes: &[u8]) -> Result<String, FsError> {
+    let is_equal = read_all(alloc, fs, at)?.as_slice() == bytes;
+    Ok(format!(in alloc; "{is_equal}")?)
+}
+
+// Whether two files have the same bytes.
+fn equal<F: Fs>(alloc: Global, fs: &mut F, a: &Path, b: &Path) -> Result<String, FsError> {
+    let bytes = read_all(alloc, fs, a)?;
+    has_bytes(alloc, fs, b, &bytes)
 }
 
 fn compared<F: Fs>(alloc: Global, fs: &mut F, a: &Path, b: &Path) -> Result<String, FsError> {
@@ -105,7 +159,7 @@ fn of_two<F: Fs>(
     other: &Path,
 ) -> Result<String, FsError> {
     match call {
-        "copy_file" => copied(alloc, fs, at, other),
+        "equal" => equal(alloc, fs, at, other),
         _ => compared(alloc, fs, at, other),
     }
 }
@@ -122,6 +176,8 @@ fn of_path<F: Fs>(
         "count" => counted(alloc, fs, at),
         "read_all" => whole(alloc, fs, at),
         "make_file" => made(alloc, fs, at, rest),
+        "fill" => filled(alloc, fs, at, number(rest)?),
+        "copy_file" => copied_to(alloc, fs, at, rest),
         _ => of_two(alloc, fs, call, at, &path(alloc, "", rest)?),
     }
 }
@@ -152,7 +208,9 @@ fn is_tool(call: &str) -> bool {
             | "count"
             | "read_all"
             | "make_file"
+            | "fill"
             | "copy_file"
+            | "equal"
             | "same_inode"
             | "sync_tree"
             | "clear_dir"
