@@ -59,6 +59,20 @@ fn put(alloc: Global, fs: &mut MemFs, at: &Path, text: &[u8]) -> Result<String, 
     Ok(String::new(alloc))
 }
 
+// Puts a text with spaces behind it, as many bytes in all as a word says.
+fn fill(
+    alloc: Global,
+    fs: &mut MemFs,
+    input: &str,
+    at: &Path,
+    words: &str,
+) -> Result<String, FsError> {
+    let (size, name) = words.split_once(' ').unwrap_or((words, ""));
+    let mut bytes = Vec::from_slice(alloc, text(alloc, input, name)?.as_bytes())?;
+    bytes.resize(size.parse::<usize>().unwrap_or(0), b' ')?;
+    put(alloc, fs, at, &bytes)
+}
+
 fn file(alloc: Global, fs: &mut MemFs, input: &str, at: &Path) -> Result<String, FsError> {
     let bytes = read_all(alloc, fs, at)?;
     Ok(shown(alloc, input, &bytes)?)
@@ -75,6 +89,7 @@ fn asked(
 ) -> Result<String, FsError> {
     match line {
         ("put", at, name) => put(alloc, fs, at, text(alloc, input, name)?.as_bytes()),
+        ("fill", at, words) => fill(alloc, fs, input, at, words),
         ("text", at, _) => file(alloc, fs, input, at),
         ("read_catalog", root, _) => Ok(read(alloc, fs, input, server, root)?),
         ("dump", root, _) => Ok(dump(alloc, fs, input, server, root)?),
@@ -94,7 +109,7 @@ fn given(
 ) -> Result<String, FsError> {
     let (call, words) = line.split_once(' ').unwrap_or((line, ""));
     match call {
-        "put" | "text" | "read_catalog" | "dump" | "replay" => {
+        "put" | "fill" | "text" | "read_catalog" | "dump" | "replay" => {
             let (word, rest) = words.split_once(' ').unwrap_or((words, ""));
             asked(
                 alloc,
