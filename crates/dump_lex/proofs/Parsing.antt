@@ -11,7 +11,7 @@ use Rattle.dump_lex.specs.declared.bytes.Lead.TheVariants as leads
 use Rattle.dump_lex.specs.Bytes.{begins, begins_blank, blanks, is_separator, starts_comment, is_dash, is_mark, lead_of}
 use Rattle.dump_lex.specs.Front.{front}
 use Rattle.dump_lex.specs.Grammar.{Separates, IsToken}
-use Rattle.dump_lex.specs.Place.{Place, Spot, rest_of, line_at, token_there, spot_there, next}
+use Rattle.dump_lex.specs.Place.{Place, PlacedToken, rest_of, line_at, token_there, token_or_end, next}
 use Rattle.dump_lex.specs.Reading.{Reads, Parses, at_end, at_error, at_token, word_of, why, ReadingParses, ParsedIsRead}
 use Rattle.dump_lex.proofs.Standing.{Answer, token, error, found_stands, standing_is_found, token_some}
 use Rattle.dump_lex.proofs.Failing.{error_holds, failing_is_told}
@@ -35,7 +35,7 @@ answer_means source at bytes a r lt is e = subst (StepMeans source at bytes) e (
     means (Ok x) h = (x.1, h, refl, refl)
     means (Err k) h = (lt, h)
 
-step_means : (source : List ℕ) (at : ℕ) (bytes : List ℕ) (r : Step) → spot_there source at bytes ≡ r → StepMeans source at bytes r
+step_means : (source : List ℕ) (at : ℕ) (bytes : List ℕ) (r : Step) → token_or_end source at bytes ≡ r → StepMeans source at bytes r
 step_means source at [] r e = subst (StepMeans source at []) e refl
 step_means source at (b ∷ bs) r e = answer_means source at (b ∷ bs) (front (b ∷ bs)) r (omega arith) refl e
 
@@ -95,7 +95,7 @@ pub skips_to : (p : Place) (s bytes : List ℕ) → rest_of p ≡ s ++ bytes →
 skips_to p s bytes e sep h = (sym (ap (blanks false) e ∙ separated_is_blank s bytes sep h), sym (ap (drop (length s)) e ∙ drop_at s bytes (length s) refl))
 
 abbrev pub Read : Place → List (TokenKind × List ℕ) → Option LexKind → Type 0
-Read p words end = (tokens : List Spot) × (e : Option LexError) × Reads p tokens e × (map word_of tokens ≡ words) × (option_map why e ≡ end)
+Read p words end = (tokens : List PlacedToken) × (e : Option LexError) × Reads p tokens e × (map word_of tokens ≡ words) × (option_map why e ≡ end)
 
 pub parsed : (bytes : List ℕ) (words : List (TokenKind × List ℕ)) (end : Option LexKind) → Parses bytes words end → (p : Place) → rest_of p ≡ bytes → Read p words end
 parsed _ _ _ (at_end s sep) p e =

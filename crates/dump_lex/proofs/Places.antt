@@ -6,7 +6,7 @@ use Rattle.std.proofs.lemmas.List.Sums.{sum_by-append}
 use Rattle.dump_lex.specs.declared.token.TokenKind.{TokenKind}
 use Rattle.dump_lex.specs.declared.token.LexKind.{LexKind}
 use Rattle.dump_lex.specs.Bytes.{blanks}
-use Rattle.dump_lex.specs.Place.{token_there, spot_there, next, line_at}
+use Rattle.dump_lex.specs.Place.{token_there, token_or_end, next, line_at}
 use Rattle.dump_lex.specs.Front.{front}
 
 pub take-add : {A : Type 0} (m n : ℕ) (xs : List A) → take (m + n) xs ≡ take m xs ++ take n (drop m xs)
@@ -24,16 +24,16 @@ line_on source rest start n e =
     let one : count_by (λ b. nat_eq b 10) (take (start + n) source) ≡ count_by (λ b. nat_eq b 10) (take start source) + count_by (λ b. nat_eq b 10) (take n (drop start source)) = ap (count_by (λ b. nat_eq b 10)) (take-add start n source) ∙ sum_by-append f (take start source) (take n (drop start source)) in
     rw e (omega (arith, one))
 
-there : (source : List ℕ) (at : ℕ) (bytes : List ℕ) (r : Result (TokenKind × ℕ) LexKind) → 0 < length bytes → r ≡ front bytes → spot_there source at bytes ≡ token_there source at bytes r
+there : (source : List ℕ) (at : ℕ) (bytes : List ℕ) (r : Result (TokenKind × ℕ) LexKind) → 0 < length bytes → r ≡ front bytes → token_or_end source at bytes ≡ token_there source at bytes r
 there source at [] r lt e = absurd (omega arith)
 there source at (b ∷ bs) r lt e = ap (token_there source at (b ∷ bs)) (sym e)
 
-pub next_is : (source rest bytes : List ℕ) (start blank : ℕ) → rest ≡ drop start source → blank ≡ blanks false rest → bytes ≡ drop blank rest → next (record { source = source; start = start }) ≡ spot_there source (start + blank) bytes
+pub next_is : (source rest bytes : List ℕ) (start blank : ℕ) → rest ≡ drop start source → blank ≡ blanks false rest → bytes ≡ drop blank rest → next (record { source = source; start = start }) ≡ token_or_end source (start + blank) bytes
 unfolding next
 next_is source rest bytes start blank e f g =
     let e1 : blanks false (drop start source) ≡ blank = ap (blanks false) (sym e) ∙ sym f in
     let e2 : drop (blanks false (drop start source)) (drop start source) ≡ bytes = (λ i. drop (e1 i) (sym e i)) ∙ sym g in
-    λ i. spot_there source (start + e1 i) (e2 i)
+    λ i. token_or_end source (start + e1 i) (e2 i)
 
 pub next_there : (source rest bytes : List ℕ) (start blank : ℕ) (r : Result (TokenKind × ℕ) LexKind) → rest ≡ drop start source → blank ≡ blanks false rest → bytes ≡ drop blank rest → 0 < length bytes → r ≡ front bytes
     → next (record { source = source; start = start }) ≡ token_there source (start + blank) bytes r

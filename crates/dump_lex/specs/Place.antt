@@ -22,31 +22,31 @@ abbrev pub line_at : List ℕ → ℕ → ℕ
 line_at source start = 1 + count_by is_newline (take start source)
 
 -- a token apart from where it lies in memory
-pub record Spot : Type 0 where
+pub record PlacedToken : Type 0 where
   pub kind : TokenKind
   pub text : List ℕ
   pub start : ℕ
   pub line : ℕ
 
-abbrev pub view : Token → Spot
+abbrev pub view : Token → PlacedToken
 view t = record { kind = t.kind; text = t.text.now; start = t.start; line = t.line }
 
 -- the token at a place where no separator stands, and the place behind it
-abbrev pub token_there : List ℕ → ℕ → List ℕ → Result (TokenKind × ℕ) LexKind → Result (Option (Spot × Place)) LexError
+abbrev pub token_there : List ℕ → ℕ → List ℕ → Result (TokenKind × ℕ) LexKind → Result (Option (PlacedToken × Place)) LexError
 token_there source start bytes (Ok x) =
     Ok (Some (record { kind = x.0; text = take x.1 bytes; start = start; line = line_at source start }, record { source = source; start = start + x.1 }))
 token_there source start bytes (Err kind) = Err (record { line = line_at source start; kind = kind })
 
-abbrev pub spot_there : List ℕ → ℕ → List ℕ → Result (Option (Spot × Place)) LexError
-spot_there source start [] = Ok None
-spot_there source start (b ∷ bs) = token_there source start (b ∷ bs) (front (b ∷ bs))
+abbrev pub token_or_end : List ℕ → ℕ → List ℕ → Result (Option (PlacedToken × Place)) LexError
+token_or_end source start [] = Ok None
+token_or_end source start (b ∷ bs) = token_there source start (b ∷ bs) (front (b ∷ bs))
 
 -- the next token behind a place, and the place behind the token; nothing at the end of the text
-unfoldable pub next : Place → Result (Option (Spot × Place)) LexError
-next p = let n = blanks false (rest_of p) in spot_there p.source (p.start + n) (drop n (rest_of p))
+unfoldable pub next : Place → Result (Option (PlacedToken × Place)) LexError
+next p = let n = blanks false (rest_of p) in token_or_end p.source (p.start + n) (drop n (rest_of p))
 
 -- What the lexer answered, and where it then is, is the next token. At the end and after an error it stays.
-abbrev pub Steps : Result (Option (Spot × Place)) LexError → Place → Place → Result (Option Token) LexError → Type 0
+abbrev pub Steps : Result (Option (PlacedToken × Place)) LexError → Place → Place → Result (Option Token) LexError → Type 0
 Steps found old new (Ok None) = (found ≡ Ok None) × (new ≡ old)
 Steps found old new (Ok (Some t)) = found ≡ Ok (Some (view t, new))
 Steps found old new (Err e) = (found ≡ Err e) × (new ≡ old)

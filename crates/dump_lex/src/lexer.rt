@@ -42,6 +42,17 @@ impl<'a> Lexer<'a> {
         }
     }
 
+    /// Another lexer at the same place: neither moves the other, so that a part of the text can be read twice.
+    pub fn fork(&self) -> Lexer<'a>
+        ensures { result ≡ self.now }
+    {
+        Lexer {
+            source: self.source,
+            start: self.start,
+            line: self.line,
+        }
+    }
+
     /// The next token, or None at the end of the text.
     ///
     /// Spaces, newlines and comments from `--` to the end of their line separate tokens. An error leaves the
@@ -53,6 +64,8 @@ impl<'a> Lexer<'a> {
         ensures exact { Steps (next self.old) self.old self.new result }
         ensures slice { IfOk result (λ o. IfSome o (IsSlice self.old.source)) }
         ensures in_order { IfOk result (λ o. IfSome o (IsInOrder self.old self.new)) }
+        // How many bytes stand before the place behind it has 64 bits.
+        ensures fits { IfOk result (λ o. self.new.start ≤ 18446744073709551615) }
         // The token is one of the grammar.
         ensures of_grammar { IfOk result (λ o. IfSome o (λ t. IsToken t.kind t.text.now)) }
         // The name that a plain word or a quoted name is, is one.

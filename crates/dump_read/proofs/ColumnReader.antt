@@ -17,7 +17,7 @@ use Rattle.dump_grammar.specs.Spelling.{Word, Spell, is_name_kind, is_column_of,
 use Rattle.dump_read.specs.Takes.{is_keyword, is_mark_kind, word_at, rest_if, key_at, mark_at}
 use Rattle.dump_read.specs.Form.{missing_by, missing_at, base_at, enum_at, kind_by, column_kind_at, live_at, dropped_at, column_by, column_at}
 use Rattle.dump_read.proofs.OneWord.{NameValid, Always, LengthValid, key_not, mark_not}
-use Rattle.dump_read.proofs.Steps.{Taken, Reader, Ends, none_taken, taken_then, key_taken, key_there, step, go_on}
+use Rattle.dump_read.proofs.Steps.{Consumes, Reader, Ends, consumes_none, consumes_then, key_consumes, key_there, step, go_on}
 use Rattle.dump_read.proofs.Readers.{made, name_reader, hex_reader, type_reader, align_reader, length_reader, qualified_reader}
 
 -- ---- what doesn't stand next
@@ -76,7 +76,7 @@ Marked more = (b : ℕ) × (ps : List Piece) × (more ≡ mark b ∷ ps)
 
 -- A reader that takes its value wherever a mark stands behind it.
 pub record Item {A : Type 0} (read : List Word → Option (A × List Word)) (pieces_of : A → List Piece) (Valid : A → Type 0) : Type 0 where
-  pub back : (ws rest : List Word) (x : A) → read ws ≡ Some (x, rest) → Valid x × Taken ws (pieces_of x) rest
+  pub back : (ws rest : List Word) (x : A) → read ws ≡ Some (x, rest) → Valid x × Consumes ws (pieces_of x) rest
   pub forth : (ws : List Word) (x : A) (more : List Piece) → Valid x → Marked more → Spell ws (pieces_of x ++ more) → Ends (read ws) x more
 
 pub item_of : {A : Type 0} {read : List Word → Option (A × List Word)} {pieces_of : A → List Piece} {Valid : A → Type 0} → Reader read pieces_of Valid → Item read pieces_of Valid
@@ -84,13 +84,13 @@ item_of r = record { back = r.back; forth = λ ws x more valid _ h. r.forth ws x
 
 -- ---- the missing value
 
-missing_back_by : (ws rest : List Word) (x : Option (List ℕ)) (o : Option (List Word)) → key_at (codes "MISSING") ws ≡ o → missing_by ws o ≡ Some (x, rest) → Taken ws (missing_pieces x) rest
-missing_back_by ws rest x None h e = made (λ x rest. Taken ws (missing_pieces x) rest) None x ws rest e (none_taken ws)
+missing_back_by : (ws rest : List Word) (x : Option (List ℕ)) (o : Option (List Word)) → key_at (codes "MISSING") ws ≡ o → missing_by ws o ≡ Some (x, rest) → Consumes ws (missing_pieces x) rest
+missing_back_by ws rest x None h e = made (λ x rest. Consumes ws (missing_pieces x) rest) None x ws rest e (consumes_none ws)
 missing_back_by ws rest x (Some w1) h e =
     step hex_reader _ w1 (x, rest) e (λ bytes w2 _ th e2.
-    made (λ x rest. Taken ws (missing_pieces x) rest) (Some bytes) x w2 rest e2 (taken_then ws w1 w2 _ _ (key_taken _ ws w1 h) th))
+    made (λ x rest. Consumes ws (missing_pieces x) rest) (Some bytes) x w2 rest e2 (consumes_then ws w1 w2 _ _ (key_consumes _ ws w1 h) th))
 
-missing_back : (ws rest : List Word) (x : Option (List ℕ)) → missing_at ws ≡ Some (x, rest) → Always x × Taken ws (missing_pieces x) rest
+missing_back : (ws rest : List Word) (x : Option (List ℕ)) → missing_at ws ≡ Some (x, rest) → Always x × Consumes ws (missing_pieces x) rest
 unfolding missing_at
 missing_back ws rest x e = (tt, missing_back_by ws rest x (key_at (codes "MISSING") ws) refl e)
 
@@ -119,16 +119,16 @@ kind_pieces (Base base) = plain (type_word base) ∷ []
 kind_pieces (Enum schema kind) = keyword (codes "ENUM") ∷ qualified schema kind []
 kind_pieces (Dropped length align) = []
 
-kind_back_by : (ws rest : List Word) (k : NamedKind) (o : Option (List Word)) → key_at (codes "ENUM") ws ≡ o → kind_by ws o ≡ Some (k, rest) → KindValid k × Taken ws (kind_pieces k) rest
+kind_back_by : (ws rest : List Word) (k : NamedKind) (o : Option (List Word)) → key_at (codes "ENUM") ws ≡ o → kind_by ws o ≡ Some (k, rest) → KindValid k × Consumes ws (kind_pieces k) rest
 unfolding base_at enum_at
 kind_back_by ws rest k None h e =
     step type_reader _ ws (k, rest) e (λ base w1 _ tb e1.
-    made (λ k rest. KindValid k × Taken ws (kind_pieces k) rest) (Base base) k w1 rest e1 (tt, tb))
+    made (λ k rest. KindValid k × Consumes ws (kind_pieces k) rest) (Base base) k w1 rest e1 (tt, tb))
 kind_back_by ws rest k (Some w1) h e =
     step qualified_reader _ w1 (k, rest) e (λ q w2 hq tq e1.
-    made (λ k rest. KindValid k × Taken ws (kind_pieces k) rest) (Enum q.schema q.name) k w2 rest e1 (hq, taken_then ws w1 w2 _ _ (key_taken _ ws w1 h) tq))
+    made (λ k rest. KindValid k × Consumes ws (kind_pieces k) rest) (Enum q.schema q.name) k w2 rest e1 (hq, consumes_then ws w1 w2 _ _ (key_consumes _ ws w1 h) tq))
 
-kind_back : (ws rest : List Word) (k : NamedKind) → column_kind_at ws ≡ Some (k, rest) → KindValid k × Taken ws (kind_pieces k) rest
+kind_back : (ws rest : List Word) (k : NamedKind) → column_kind_at ws ≡ Some (k, rest) → KindValid k × Consumes ws (kind_pieces k) rest
 unfolding column_kind_at
 kind_back ws rest k e = kind_back_by ws rest k (key_at (codes "ENUM") ws) refl e
 
@@ -162,14 +162,14 @@ live_valid n missing (Dropped length align) hn valid = absurd valid
 abbrev ColumnValid : ColumnText → Type 0
 ColumnValid c = is_column c ≡ true
 
-live_back : (ws rest : List Word) (c : ColumnText) → live_at ws ≡ Some (c, rest) → ColumnValid c × Taken ws (column_pieces c) rest
+live_back : (ws rest : List Word) (c : ColumnText) → live_at ws ≡ Some (c, rest) → ColumnValid c × Consumes ws (column_pieces c) rest
 unfolding live_at
 live_back ws rest c e =
     step name_reader _ ws (c, rest) e (λ n w1 hn tn e1.
     step column_kind_reader _ w1 (c, rest) e1 (λ k w2 hk tk e2.
     option_and_then_some _ (missing_at w2) (c, rest) e2 (λ x ex e3. let missing = x.0 in let w3 = x.1 in let tm = (missing_back w2 w3 missing ex).1 in
-    made (λ c rest. ColumnValid c × Taken ws (column_pieces c) rest) (record { name = n; kind = k; missing = missing }) c w3 rest e3
-    (live_valid n missing k hn hk, subst (λ ps. Taken ws ps w3) (sym (live_pieces n missing k hk)) (taken_then ws w1 w3 _ _ tn (taken_then w1 w2 w3 _ _ tk tm))))))
+    made (λ c rest. ColumnValid c × Consumes ws (column_pieces c) rest) (record { name = n; kind = k; missing = missing }) c w3 rest e3
+    (live_valid n missing k hn hk, subst (λ ps. Consumes ws ps w3) (sym (live_pieces n missing k hk)) (consumes_then ws w1 w3 _ _ tn (consumes_then w1 w2 w3 _ _ tk tm))))))
 
 live_forth : (ws : List Word) (n : List ℕ) (missing : Option (List ℕ)) (k : NamedKind) (more : List Piece) → NameValid n → KindValid k → Marked more → Spell ws (name n ∷ (kind_pieces k ++ (missing_pieces missing ++ more))) → Ends (live_at ws) (record { name = n; kind = k; missing = missing }) more
 unfolding live_at
@@ -181,13 +181,13 @@ live_forth ws n missing k more hn hk marked h =
 
 -- ---- columns that were dropped
 
-dropped_back : (ws w0 rest : List Word) (c : ColumnText) → key_at (codes "DROPPED") w0 ≡ Some ws → dropped_at ws ≡ Some (c, rest) → ColumnValid c × Taken w0 (column_pieces c) rest
+dropped_back : (ws w0 rest : List Word) (c : ColumnText) → key_at (codes "DROPPED") w0 ≡ Some ws → dropped_at ws ≡ Some (c, rest) → ColumnValid c × Consumes w0 (column_pieces c) rest
 unfolding dropped_at
 dropped_back ws w0 rest c found e =
     step length_reader _ ws (c, rest) e (λ length w1 hl tl e1.
     step align_reader _ w1 (c, rest) e1 (λ align w2 _ ta e2.
-    made (λ c rest. ColumnValid c × Taken w0 (column_pieces c) rest) (record { name = []; kind = Dropped length align; missing = None }) c w2 rest e2
-    (hl, taken_then w0 ws w2 _ _ (key_taken _ w0 ws found) (taken_then ws w1 w2 _ _ tl ta))))
+    made (λ c rest. ColumnValid c × Consumes w0 (column_pieces c) rest) (record { name = []; kind = Dropped length align; missing = None }) c w2 rest e2
+    (hl, consumes_then w0 ws w2 _ _ (key_consumes _ w0 ws found) (consumes_then ws w1 w2 _ _ tl ta))))
 
 dropped_forth : (ws : List Word) (length : ℤ) (align : Align) (more : List Piece) → LengthValid length → Spell ws (length_piece length ∷ plain (align_word align) ∷ more) → Ends (dropped_at ws) (record { name = []; kind = Dropped length align; missing = None }) more
 unfolding dropped_at
@@ -197,11 +197,11 @@ dropped_forth ws length align more hl h =
 
 -- ---- columns
 
-column_back_by : (ws rest : List Word) (c : ColumnText) (o : Option (List Word)) → key_at (codes "DROPPED") ws ≡ o → column_by ws o ≡ Some (c, rest) → ColumnValid c × Taken ws (column_pieces c) rest
+column_back_by : (ws rest : List Word) (c : ColumnText) (o : Option (List Word)) → key_at (codes "DROPPED") ws ≡ o → column_by ws o ≡ Some (c, rest) → ColumnValid c × Consumes ws (column_pieces c) rest
 column_back_by ws rest c None h e = live_back ws rest c e
 column_back_by ws rest c (Some w1) h e = dropped_back w1 ws rest c h e
 
-column_back : (ws rest : List Word) (c : ColumnText) → column_at ws ≡ Some (c, rest) → ColumnValid c × Taken ws (column_pieces c) rest
+column_back : (ws rest : List Word) (c : ColumnText) → column_at ws ≡ Some (c, rest) → ColumnValid c × Consumes ws (column_pieces c) rest
 unfolding column_at
 column_back ws rest c e = column_back_by ws rest c (key_at (codes "DROPPED") ws) refl e
 

@@ -10,12 +10,12 @@ use Rattle.dump_grammar.specs.declared.statement.NextKind.{NextKind}
 use Rattle.dump_grammar.specs.declared.statement.NextKind.TheVariants as kinds
 use Rattle.dump_grammar.specs.Pieces.{keyword, plain, kind_word, type_word, align_word, flag_word}
 use Rattle.dump_grammar.specs.Spelling.{Word, Writes}
-use Rattle.dump_read.specs.declared.heads.Lead.{Lead}
-use Rattle.dump_read.specs.declared.heads.Lead.TheVariants as leads
+use Rattle.dump_read.specs.declared.heads.Verb.{Verb}
+use Rattle.dump_read.specs.declared.heads.Verb.TheVariants as verbs
 use Rattle.dump_read.specs.declared.heads.Object.{Object}
 use Rattle.dump_read.specs.declared.heads.Object.TheVariants as objects
 use Rattle.dump_read.specs.Takes.{is_key, is_plain, kind_in, type_in, align_in, flag_in, next_kinds, base_types, alignments}
-use Rattle.dump_read.specs.Form.{lead_word, lead_in, object_word, object_in, leads_all, objects_all}
+use Rattle.dump_read.specs.Form.{verb_word, verb_in, object_word, object_in, verbs_all, objects_all}
 use Rattle.dump_read.proofs.OneWord.{Value, Always, key_back, plain_back}
 
 pub pick : {A : Type 0} (b : Bool) (y x : A) (r : Option A) → cond b (Some y) r ≡ Some x → ((b ≡ true) × (y ≡ x)) ⊎ (r ≡ Some x)
@@ -114,21 +114,21 @@ flag_back w x e = key_back (flag_word x) w (found (λ y. is_key (flag_word y) w)
 pub flag_value : Value flag_in (λ x. keyword (flag_word x)) Always
 flag_value = record { back = λ w x e. (tt, flag_back w x e); forth = λ w x _ h. flag_forth w x h }
 
-lead_forth : (w : Word) (x : Lead) → Writes w (keyword (lead_word x)) → lead_in w ≡ Some x
-unfolding lead_in is_key
-lead_forth w leads.Bootstrap h = ap lead_in h
-lead_forth w leads.Set h = ap lead_in h
-lead_forth w leads.Create h = ap lead_in h
-lead_forth w leads.Alter h = ap lead_in h
-lead_forth w leads.Connect h = ap lead_in h
-lead_forth w leads.Add h = ap lead_in h
+verb_forth : (w : Word) (x : Verb) → Writes w (keyword (verb_word x)) → verb_in w ≡ Some x
+unfolding verb_in is_key
+verb_forth w verbs.Bootstrap h = ap verb_in h
+verb_forth w verbs.Set h = ap verb_in h
+verb_forth w verbs.Create h = ap verb_in h
+verb_forth w verbs.Alter h = ap verb_in h
+verb_forth w verbs.Connect h = ap verb_in h
+verb_forth w verbs.Add h = ap verb_in h
 
-lead_back : (w : Word) (x : Lead) → lead_in w ≡ Some x → Writes w (keyword (lead_word x))
-unfolding lead_in
-lead_back w x e = key_back (lead_word x) w (found (λ y. is_key (lead_word y) w) leads_all x e)
+verb_back : (w : Word) (x : Verb) → verb_in w ≡ Some x → Writes w (keyword (verb_word x))
+unfolding verb_in
+verb_back w x e = key_back (verb_word x) w (found (λ y. is_key (verb_word y) w) verbs_all x e)
 
-pub lead_value : Value lead_in (λ x. keyword (lead_word x)) Always
-lead_value = record { back = λ w x e. (tt, lead_back w x e); forth = λ w x _ h. lead_forth w x h }
+pub verb_value : Value verb_in (λ x. keyword (verb_word x)) Always
+verb_value = record { back = λ w x e. (tt, verb_back w x e); forth = λ w x _ h. verb_forth w x h }
 
 object_forth : (w : Word) (x : Object) → Writes w (keyword (object_word x)) → object_in w ≡ Some x
 unfolding object_in is_key

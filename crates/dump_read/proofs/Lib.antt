@@ -8,5 +8,5 @@ pub mod ListReader
 pub mod StatementBack
 pub mod StatementForth
 pub mod Gather
-pub mod Said
+pub mod Extent
 pub mod TextStands

@@ -4,14 +4,14 @@ use Rattle.std.proofs.lemmas.List.{append-nil}
 use Rattle.dump_grammar.specs.Spelling.{Word}
 use Rattle.dump_read.specs.Takes.{mark_at}
 use Rattle.dump_read.specs.Form.{with_items, more_by, more_at}
-use Rattle.dump_read.proofs.Steps.{mark_taken}
+use Rattle.dump_read.proofs.Steps.{mark_consumes}
 
 with_items-more : {A : Type 0} (f g : List A) (r : Option (List A × List Word)) → with_items f (with_items g r) ≡ with_items (f ++ g) r
 with_items-more {A} f g None = refl
 with_items-more {A} f g (Some x) = ap (λ (xs : List A). Some (xs, x.1)) (sym (append_assoc f g x.0))
 
 pub mark_shorter : (b : ℕ) (ws rest : List Word) → mark_at b ws ≡ Some rest → length rest < length ws
-mark_shorter b ws rest e = omega (arith, (mark_taken b ws rest e).count)
+mark_shorter b ws rest e = omega (arith, (mark_consumes b ws rest e).count)
 
 -- no comma stands next
 pub more_none : {A : Type 0} (item : List Word → Option (A × List Word)) (n : ℕ) (ws : List Word) (front : List A) (total : Option (List A × List Word)) → length ws < n → mark_at 44 ws ≡ None → with_items front (more_at item n ws) ≡ total → total ≡ Some (front, ws)

@@ -5,10 +5,10 @@ use Rattle.dump_grammar.specs.Pieces.{Piece, keyword, plain, mark, name, number,
 use Rattle.dump_grammar.specs.Spelling.{Word, Spell}
 use Rattle.dump_read.specs.declared.parts.Qualified.{Qualified}
 use Rattle.dump_read.specs.Takes.{name_in, number_in, string_in, location_in, hex_in, kind_in, type_in, align_in, flag_in, length_in, column_number_in, one}
-use Rattle.dump_read.specs.Form.{name_at, qualified_at, keyed_name_at, lead_word, lead_in, object_word, object_in}
+use Rattle.dump_read.specs.Form.{name_at, qualified_at, keyed_name_at, verb_word, verb_in, object_word, object_in}
 use Rattle.dump_read.proofs.OneWord.{NameValid, Always, LengthValid, ColumnNumberValid, LocationValid, NumberValid, name_value, string_value, hex_value, length_value, column_number_value, location_value, number_value}
-use Rattle.dump_read.proofs.Found.{kind_value, type_value, align_value, flag_value, lead_value, object_value}
-use Rattle.dump_read.proofs.Steps.{Taken, Reader, Ends, taken_then, one_reader, step, key_step, mark_step, go_on, key_on, mark_on}
+use Rattle.dump_read.proofs.Found.{kind_value, type_value, align_value, flag_value, verb_value, object_value}
+use Rattle.dump_read.proofs.Steps.{Consumes, Reader, Ends, consumes_then, one_reader, step, key_step, mark_step, go_on, key_on, mark_on}
 
 -- what holds of what was made holds of what was read
 pub made : {A : Type 0} (P : A → List Word → Type 0) (x y : A) (r s : List Word) → ◌≡◌ {A = Option (A × List Word)} (Some (x, r)) (Some (y, s)) → P x r → P y s
@@ -43,8 +43,8 @@ align_reader = one_reader align_value
 pub flag_reader : Reader (one flag_in) (λ on. keyword (flag_word on) ∷ []) Always
 flag_reader = one_reader flag_value
 
-pub lead_reader : Reader (one lead_in) (λ l. keyword (lead_word l) ∷ []) Always
-lead_reader = one_reader lead_value
+pub verb_reader : Reader (one verb_in) (λ l. keyword (verb_word l) ∷ []) Always
+verb_reader = one_reader verb_value
 
 pub object_reader : Reader (one object_in) (λ o. keyword (object_word o) ∷ []) Always
 object_reader = one_reader object_value
@@ -57,11 +57,11 @@ column_number_reader = one_reader column_number_value
 
 -- ---- names behind a keyword, and in a schema
 
-keyed_back : (t : List ℕ) (ws rest : List Word) (n : List ℕ) → keyed_name_at t ws ≡ Some (n, rest) → NameValid n × Taken ws (keyword t ∷ name n ∷ []) rest
+keyed_back : (t : List ℕ) (ws rest : List Word) (n : List ℕ) → keyed_name_at t ws ≡ Some (n, rest) → NameValid n × Consumes ws (keyword t ∷ name n ∷ []) rest
 unfolding keyed_name_at
 keyed_back t ws rest n e = key_step t name_at ws (n, rest) e (λ w1 tk found.
     let p = name_reader.back w1 rest n found in
-    (p.0, taken_then ws w1 rest (keyword t ∷ []) (name n ∷ []) tk p.1))
+    (p.0, consumes_then ws w1 rest (keyword t ∷ []) (name n ∷ []) tk p.1))
 
 keyed_forth : (t : List ℕ) (ws : List Word) (n : List ℕ) (more : List Piece) → NameValid n → Spell ws (keyword t ∷ name n ∷ more) → Ends (keyed_name_at t ws) n more
 unfolding keyed_name_at
@@ -76,14 +76,14 @@ PlaceValid q = NameValid q.schema × NameValid q.name
 abbrev pub place_pieces : Qualified → List Piece
 place_pieces q = qualified q.schema q.name []
 
-qualified_back : (ws rest : List Word) (q : Qualified) → qualified_at ws ≡ Some (q, rest) → PlaceValid q × Taken ws (place_pieces q) rest
+qualified_back : (ws rest : List Word) (q : Qualified) → qualified_at ws ≡ Some (q, rest) → PlaceValid q × Consumes ws (place_pieces q) rest
 unfolding qualified_at
 qualified_back ws rest q e =
     step name_reader _ ws (q, rest) e (λ schema w1 hs ts e1.
     mark_step 46 _ w1 (q, rest) e1 (λ w2 tm e2.
     step name_reader _ w2 (q, rest) e2 (λ n w3 hn tn e3.
-    made (λ q rest. PlaceValid q × Taken ws (place_pieces q) rest) _ q w3 rest e3
-    ((hs, hn), taken_then ws w1 w3 _ _ ts (taken_then w1 w2 w3 _ _ tm tn)))))
+    made (λ q rest. PlaceValid q × Consumes ws (place_pieces q) rest) _ q w3 rest e3
+    ((hs, hn), consumes_then ws w1 w3 _ _ ts (consumes_then w1 w2 w3 _ _ tm tn)))))
 
 qualified_forth : (ws : List Word) (q : Qualified) (more : List Piece) → PlaceValid q → Spell ws (place_pieces q ++ more) → Ends (qualified_at ws) q more
 unfolding qualified_at

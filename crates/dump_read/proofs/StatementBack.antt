@@ -6,27 +6,27 @@ use Rattle.dump_grammar.specs.declared.statement.Statement.{Statement}
 use Rattle.dump_grammar.specs.declared.statement.Statement.TheVariants.{Bootstrap, SetNext, CreateRole, CreateTablespace, CreateDatabase, AlterDatabase, Connect, CreateSchema, CreateEnum, AddLabel, CreateTable, CreateIndex, CreateSequence}
 use Rattle.dump_grammar.specs.Pieces.{Piece, keyword, plain, mark, name, number, string, location, semicolon, kind_word, flag_word, items, column_pieces, key_pieces, pieces}
 use Rattle.dump_grammar.specs.Spelling.{Word, Spell, IsStatement}
-use Rattle.dump_read.specs.declared.heads.Lead.{Lead}
-use Rattle.dump_read.specs.declared.heads.Lead.TheVariants as leads
+use Rattle.dump_read.specs.declared.heads.Verb.{Verb}
+use Rattle.dump_read.specs.declared.heads.Verb.TheVariants as verbs
 use Rattle.dump_read.specs.declared.heads.Object.{Object}
 use Rattle.dump_read.specs.declared.heads.Object.TheVariants as objects
-use Rattle.dump_read.specs.Form.{lead_word, object_word, bootstrap_at, next_at, role_at, tablespace_made_at, database_at, altered_at, connect_at, schema_at, enum_made_at, label_at, table_at, index_at, sequence_at, columns_at, keys_at, created_at, create_at, led_at, words_at, alone, form}
-use Rattle.dump_read.proofs.Steps.{Taken, taken_then, step, key_step, mark_step}
-use Rattle.dump_read.proofs.Readers.{made, name_reader, number_reader, string_reader, location_reader, kind_reader, flag_reader, lead_reader, object_reader, keyed_reader, qualified_reader}
+use Rattle.dump_read.specs.Form.{verb_word, object_word, bootstrap_at, next_at, role_at, tablespace_made_at, database_at, altered_at, connect_at, schema_at, enum_made_at, label_at, table_at, index_at, sequence_at, columns_at, keys_at, created_at, create_at, behind_verb, words_at, at_end, form}
+use Rattle.dump_read.proofs.Steps.{Consumes, consumes_then, step, key_step, mark_step}
+use Rattle.dump_read.proofs.Readers.{made, name_reader, number_reader, string_reader, location_reader, kind_reader, flag_reader, verb_reader, object_reader, keyed_reader, qualified_reader}
 use Rattle.dump_read.proofs.ListReader.{parenthesized, columns_back, keys_back}
 
 -- The words behind those heads are of the statement, up to its `;`.
 record Behind (heads : List Piece) (ws : List Word) (s : Statement) (rest : List Word) : Type 0 where
   tail : List Piece
   is : pieces s ≡ heads ++ (tail ++ semicolon ∷ [])
-  taken : Taken ws tail rest
+  taken : Consumes ws tail rest
   valid : IsStatement s
 
-behind_then : (heads ps : List Piece) (ws mid rest : List Word) (s : Statement) → Taken ws ps mid → Behind (heads ++ ps) mid s rest → Behind heads ws s rest
+behind_then : (heads ps : List Piece) (ws mid rest : List Word) (s : Statement) → Consumes ws ps mid → Behind (heads ++ ps) mid s rest → Behind heads ws s rest
 behind_then heads ps ws mid rest s t b = record {
   tail = ps ++ b.tail;
   is = b.is ∙ append_assoc heads ps (b.tail ++ semicolon ∷ []) ∙ ap (λ more. heads ++ more) (sym (append_assoc ps b.tail (semicolon ∷ [])));
-  taken = taken_then ws mid rest ps b.tail t b.taken;
+  taken = consumes_then ws mid rest ps b.tail t b.taken;
   valid = b.valid;
 }
 
@@ -50,7 +50,7 @@ next_back ws rest s e =
     made (λ s rest. Behind (keyword (codes "SET") ∷ []) ws s rest) (SetNext k m) s w3 rest e3 (record {
       tail = keyword (codes "NEXT") ∷ plain (kind_word k) ∷ number m ∷ [];
       is = refl;
-      taken = taken_then ws w1 w3 _ _ t1 (taken_then w1 w2 w3 _ _ t2 t3);
+      taken = consumes_then ws w1 w3 _ _ t1 (consumes_then w1 w2 w3 _ _ t2 t3);
       valid = hm;
     }))))
 
@@ -75,7 +75,7 @@ tablespace_back ws rest s e =
     made (λ s rest. Behind (keyword (codes "CREATE") ∷ keyword (codes "TABLESPACE") ∷ []) ws s rest) (CreateTablespace n o p) s w4 rest e4 (record {
       tail = name n ∷ keyword (codes "OWNER") ∷ name o ∷ keyword (codes "LOCATION") ∷ location p ∷ [];
       is = refl;
-      taken = taken_then ws w1 w4 _ _ t1 (taken_then w1 w2 w4 _ _ t2 (taken_then w2 w3 w4 _ _ t3 t4));
+      taken = consumes_then ws w1 w4 _ _ t1 (consumes_then w1 w2 w4 _ _ t2 (consumes_then w2 w3 w4 _ _ t3 t4));
       valid = (hn, ho, hp);
     })))))
 
@@ -87,7 +87,7 @@ database_back ws rest s e =
     made (λ s rest. Behind (keyword (codes "CREATE") ∷ keyword (codes "DATABASE") ∷ []) ws s rest) (CreateDatabase n o) s w2 rest e2 (record {
       tail = name n ∷ keyword (codes "OWNER") ∷ name o ∷ [];
       is = refl;
-      taken = taken_then ws w1 w2 _ _ t1 t2;
+      taken = consumes_then ws w1 w2 _ _ t1 t2;
       valid = (hn, ho);
     })))
 
@@ -100,7 +100,7 @@ altered_back ws rest s e =
     made (λ s rest. Behind (keyword (codes "ALTER") ∷ []) ws s rest) (AlterDatabase n b) s w3 rest e3 (record {
       tail = keyword (codes "DATABASE") ∷ name n ∷ keyword (codes "CONNECTIONS") ∷ keyword (flag_word b) ∷ [];
       is = refl;
-      taken = taken_then ws w1 w3 _ _ t1 (taken_then w1 w2 w3 _ _ t2 t3);
+      taken = consumes_then ws w1 w3 _ _ t1 (consumes_then w1 w2 w3 _ _ t2 t3);
       valid = hn;
     }))))
 
@@ -123,7 +123,7 @@ schema_back ws rest s e =
     made (λ s rest. Behind (keyword (codes "CREATE") ∷ keyword (codes "SCHEMA") ∷ []) ws s rest) (CreateSchema n o) s w2 rest e2 (record {
       tail = name n ∷ keyword (codes "OWNER") ∷ name o ∷ [];
       is = refl;
-      taken = taken_then ws w1 w2 _ _ t1 t2;
+      taken = consumes_then ws w1 w2 _ _ t1 t2;
       valid = (hn, ho);
     })))
 
@@ -135,7 +135,7 @@ enum_back ws rest s e =
     made (λ s rest. Behind (keyword (codes "CREATE") ∷ keyword (codes "ENUM") ∷ []) ws s rest) (CreateEnum q.schema q.name o) s w2 rest e2 (record {
       tail = name q.schema ∷ mark 46 ∷ name q.name ∷ keyword (codes "OWNER") ∷ name o ∷ [];
       is = refl;
-      taken = taken_then ws w1 w2 _ _ t1 t2;
+      taken = consumes_then ws w1 w2 _ _ t1 t2;
       valid = (hq.0, hq.1, ho);
     })))
 
@@ -148,7 +148,7 @@ label_back ws rest s e =
     made (λ s rest. Behind (keyword (codes "ADD") ∷ []) ws s rest) (AddLabel q.schema q.name t) s w3 rest e3 (record {
       tail = keyword (codes "LABEL") ∷ name q.schema ∷ mark 46 ∷ name q.name ∷ string t ∷ [];
       is = refl;
-      taken = taken_then ws w1 w3 _ _ t1 (taken_then w1 w2 w3 _ _ t2 t3);
+      taken = consumes_then ws w1 w3 _ _ t1 (consumes_then w1 w2 w3 _ _ t2 t3);
       valid = hq;
     }))))
 
@@ -162,7 +162,7 @@ table_back ws rest s e =
     made (λ s rest. Behind (keyword (codes "CREATE") ∷ keyword (codes "TABLE") ∷ []) ws s rest) (CreateTable q.schema q.name o a cs) s w4 rest e4 (record {
       tail = name q.schema ∷ mark 46 ∷ name q.name ∷ keyword (codes "OWNER") ∷ name o ∷ keyword (codes "TABLESPACE") ∷ name a ∷ parenthesized (map column_pieces cs) [];
       is = ap (λ ps. keyword (codes "CREATE") ∷ keyword (codes "TABLE") ∷ name q.schema ∷ mark 46 ∷ name q.name ∷ keyword (codes "OWNER") ∷ name o ∷ keyword (codes "TABLESPACE") ∷ name a ∷ mark 40 ∷ ps) (sym (append_assoc (items (map column_pieces cs)) (mark 41 ∷ []) (semicolon ∷ [])));
-      taken = taken_then ws w1 w4 _ _ t1 (taken_then w1 w2 w4 _ _ t2 (taken_then w2 w3 w4 _ _ t3 t4));
+      taken = consumes_then ws w1 w4 _ _ t1 (consumes_then w1 w2 w4 _ _ t2 (consumes_then w2 w3 w4 _ _ t3 t4));
       valid = (hq.0, hq.1, ho, ha, hcs);
     })))))
 
@@ -177,7 +177,7 @@ index_back ws rest s e =
     made (λ s rest. Behind (keyword (codes "CREATE") ∷ keyword (codes "INDEX") ∷ []) ws s rest) (CreateIndex n q.schema q.name a ks) s w5 rest e5 (record {
       tail = name n ∷ keyword (codes "ON") ∷ name q.schema ∷ mark 46 ∷ name q.name ∷ keyword (codes "TABLESPACE") ∷ name a ∷ parenthesized (map key_pieces ks) [];
       is = ap (λ ps. keyword (codes "CREATE") ∷ keyword (codes "INDEX") ∷ name n ∷ keyword (codes "ON") ∷ name q.schema ∷ mark 46 ∷ name q.name ∷ keyword (codes "TABLESPACE") ∷ name a ∷ mark 40 ∷ ps) (sym (append_assoc (items (map key_pieces ks)) (mark 41 ∷ []) (semicolon ∷ [])));
-      taken = taken_then ws w1 w5 _ _ t1 (taken_then w1 w2 w5 _ _ t2 (taken_then w2 w3 w5 _ _ t3 (taken_then w3 w4 w5 _ _ t4 t5)));
+      taken = consumes_then ws w1 w5 _ _ t1 (consumes_then w1 w2 w5 _ _ t2 (consumes_then w2 w3 w5 _ _ t3 (consumes_then w3 w4 w5 _ _ t4 t5)));
       valid = (hn, hq.0, hq.1, ha, hks);
     }))))))
 
@@ -189,7 +189,7 @@ sequence_back ws rest s e =
     made (λ s rest. Behind (keyword (codes "CREATE") ∷ keyword (codes "SEQUENCE") ∷ []) ws s rest) (CreateSequence q.schema q.name o) s w2 rest e2 (record {
       tail = name q.schema ∷ mark 46 ∷ name q.name ∷ keyword (codes "OWNER") ∷ name o ∷ [];
       is = refl;
-      taken = taken_then ws w1 w2 _ _ t1 t2;
+      taken = consumes_then ws w1 w2 _ _ t1 t2;
       valid = (hq.0, hq.1, ho);
     })))
 
@@ -209,19 +209,19 @@ create_back : (ws rest : List Word) (s : Statement) → create_at ws ≡ Some (s
 unfolding create_at
 create_back ws rest s e = step object_reader _ ws (s, rest) e (λ object w1 _ t e1. behind_then _ _ ws w1 rest s t (created_back w1 rest object s e1))
 
-led_back : (ws rest : List Word) (lead : Lead) (s : Statement) → led_at lead ws ≡ Some (s, rest) → Behind (keyword (lead_word lead) ∷ []) ws s rest
-led_back ws rest leads.Bootstrap s e = bootstrap_back ws rest s e
-led_back ws rest leads.Set s e = next_back ws rest s e
-led_back ws rest leads.Create s e = create_back ws rest s e
-led_back ws rest leads.Alter s e = altered_back ws rest s e
-led_back ws rest leads.Connect s e = connect_back ws rest s e
-led_back ws rest leads.Add s e = label_back ws rest s e
+led_back : (ws rest : List Word) (verb : Verb) (s : Statement) → behind_verb verb ws ≡ Some (s, rest) → Behind (keyword (verb_word verb) ∷ []) ws s rest
+led_back ws rest verbs.Bootstrap s e = bootstrap_back ws rest s e
+led_back ws rest verbs.Set s e = next_back ws rest s e
+led_back ws rest verbs.Create s e = create_back ws rest s e
+led_back ws rest verbs.Alter s e = altered_back ws rest s e
+led_back ws rest verbs.Connect s e = connect_back ws rest s e
+led_back ws rest verbs.Add s e = label_back ws rest s e
 
 words_back : (ws rest : List Word) (s : Statement) → words_at ws ≡ Some (s, rest) → Behind [] ws s rest
 unfolding words_at
-words_back ws rest s e = step lead_reader _ ws (s, rest) e (λ lead w1 _ t e1. behind_then _ _ ws w1 rest s t (led_back w1 rest lead s e1))
+words_back ws rest s e = step verb_reader _ ws (s, rest) e (λ verb w1 _ t e1. behind_then _ _ ws w1 rest s t (led_back w1 rest verb s e1))
 
-alone_back : (x s : Statement) (ws : List Word) → alone x ws ≡ Some s → (x ≡ s) × Spell ws []
+alone_back : (x s : Statement) (ws : List Word) → at_end x ws ≡ Some s → (x ≡ s) × Spell ws []
 alone_back x s [] e = (same_Some x s e, tt)
 alone_back x s (w ∷ ws) e = absurd cc
 

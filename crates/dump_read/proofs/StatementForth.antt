@@ -5,14 +5,14 @@ use Rattle.dump_grammar.specs.declared.statement.Statement.{Statement}
 use Rattle.dump_grammar.specs.declared.statement.Statement.TheVariants.{Bootstrap, SetNext, CreateRole, CreateTablespace, CreateDatabase, AlterDatabase, Connect, CreateSchema, CreateEnum, AddLabel, CreateTable, CreateIndex, CreateSequence}
 use Rattle.dump_grammar.specs.Pieces.{Piece, keyword, plain, mark, name, number, string, location, semicolon, kind_word, flag_word, column_pieces, key_pieces, listed, pieces}
 use Rattle.dump_grammar.specs.Spelling.{Word, Spell, IsStatement}
-use Rattle.dump_read.specs.declared.heads.Lead.{Lead}
-use Rattle.dump_read.specs.declared.heads.Lead.TheVariants as leads
+use Rattle.dump_read.specs.declared.heads.Verb.{Verb}
+use Rattle.dump_read.specs.declared.heads.Verb.TheVariants as verbs
 use Rattle.dump_read.specs.declared.heads.Object.{Object}
 use Rattle.dump_read.specs.declared.heads.Object.TheVariants as objects
 use Rattle.dump_read.specs.Takes.{mark_at}
-use Rattle.dump_read.specs.Form.{lead_word, object_word, bootstrap_at, next_at, role_at, tablespace_made_at, database_at, altered_at, connect_at, schema_at, enum_made_at, label_at, table_at, index_at, sequence_at, created_at, create_at, led_at, words_at, alone, form}
+use Rattle.dump_read.specs.Form.{verb_word, object_word, bootstrap_at, next_at, role_at, tablespace_made_at, database_at, altered_at, connect_at, schema_at, enum_made_at, label_at, table_at, index_at, sequence_at, created_at, create_at, behind_verb, words_at, at_end, form}
 use Rattle.dump_read.proofs.Steps.{Ends, mark_there, go_on, key_on}
-use Rattle.dump_read.proofs.Readers.{name_reader, number_reader, string_reader, location_reader, kind_reader, flag_reader, lead_reader, object_reader, keyed_reader, qualified_reader}
+use Rattle.dump_read.proofs.Readers.{name_reader, number_reader, string_reader, location_reader, kind_reader, flag_reader, verb_reader, object_reader, keyed_reader, qualified_reader}
 use Rattle.dump_read.proofs.ListReader.{columns_forth, keys_forth}
 
 abbrev end_of : List Piece
@@ -22,23 +22,23 @@ end_of = semicolon ∷ []
 abbrev IsRead : Option (Statement × List Word) → Statement → Type 0
 IsRead read s = Ends read s end_of
 
-lead_on : (lead : Lead) (ws : List Word) (more : List Piece) (s : Statement) → Spell ws (keyword (lead_word lead) ∷ more) → ((rest : List Word) → Spell rest more → IsRead (led_at lead rest) s) → IsRead (words_at ws) s
+verb_on : (verb : Verb) (ws : List Word) (more : List Piece) (s : Statement) → Spell ws (keyword (verb_word verb) ∷ more) → ((rest : List Word) → Spell rest more → IsRead (behind_verb verb rest) s) → IsRead (words_at ws) s
 unfolding words_at
-lead_on lead ws more s h go = go_on lead_reader (λ x. led_at x.0 x.1) ws lead more end_of s tt h go
+verb_on verb ws more s h go = go_on verb_reader (λ x. behind_verb x.0 x.1) ws verb more end_of s tt h go
 
 create_on : (object : Object) (ws : List Word) (more : List Piece) (s : Statement) → Spell ws (keyword (codes "CREATE") ∷ keyword (object_word object) ∷ more) → ((rest : List Word) → Spell rest more → IsRead (created_at object rest) s) → IsRead (words_at ws) s
 unfolding create_at
 create_on object ws more s h go =
-    lead_on leads.Create ws (keyword (object_word object) ∷ more) s h (λ w1 h1. go_on object_reader (λ x. created_at x.0 x.1) w1 object more end_of s tt h1 go)
+    verb_on verbs.Create ws (keyword (object_word object) ∷ more) s h (λ w1 h1. go_on object_reader (λ x. created_at x.0 x.1) w1 object more end_of s tt h1 go)
 
 words_forth : (ws : List Word) (s : Statement) → IsStatement s → Spell ws (pieces s) → IsRead (words_at ws) s
 unfolding bootstrap_at next_at role_at tablespace_made_at database_at altered_at connect_at schema_at enum_made_at label_at table_at index_at sequence_at
 words_forth ws (Bootstrap n) valid h =
-    lead_on leads.Bootstrap ws _ (Bootstrap n) h (λ w0 h0.
+    verb_on verbs.Bootstrap ws _ (Bootstrap n) h (λ w0 h0.
     go_on name_reader _ w0 n end_of end_of (Bootstrap n) valid h0 (λ w1 h1.
     (w1, refl, h1)))
 words_forth ws (SetNext kind n) valid h =
-    lead_on leads.Set ws _ (SetNext kind n) h (λ w0 h0.
+    verb_on verbs.Set ws _ (SetNext kind n) h (λ w0 h0.
     key_on (codes "NEXT") _ w0 (plain (kind_word kind) ∷ number n ∷ end_of) end_of (SetNext kind n) h0 (λ w1 h1.
     go_on kind_reader _ w1 kind (number n ∷ end_of) end_of (SetNext kind n) tt h1 (λ w2 h2.
     go_on number_reader _ w2 n end_of end_of (SetNext kind n) valid h2 (λ w3 h3.
@@ -60,13 +60,13 @@ words_forth ws (CreateDatabase n owner) valid h =
     go_on (keyed_reader (codes "OWNER")) _ w1 owner end_of end_of (CreateDatabase n owner) valid.1 h1 (λ w2 h2.
     (w2, refl, h2))))
 words_forth ws (AlterDatabase n on) valid h =
-    lead_on leads.Alter ws _ (AlterDatabase n on) h (λ w0 h0.
+    verb_on verbs.Alter ws _ (AlterDatabase n on) h (λ w0 h0.
     go_on (keyed_reader (codes "DATABASE")) _ w0 n (keyword (codes "CONNECTIONS") ∷ keyword (flag_word on) ∷ end_of) end_of (AlterDatabase n on) valid h0 (λ w1 h1.
     key_on (codes "CONNECTIONS") _ w1 (keyword (flag_word on) ∷ end_of) end_of (AlterDatabase n on) h1 (λ w2 h2.
     go_on flag_reader _ w2 on end_of end_of (AlterDatabase n on) tt h2 (λ w3 h3.
     (w3, refl, h3)))))
 words_forth ws (Connect n) valid h =
-    lead_on leads.Connect ws _ (Connect n) h (λ w0 h0.
+    verb_on verbs.Connect ws _ (Connect n) h (λ w0 h0.
     go_on name_reader _ w0 n end_of end_of (Connect n) valid h0 (λ w1 h1.
     (w1, refl, h1)))
 words_forth ws (CreateSchema n owner) valid h =
@@ -80,7 +80,7 @@ words_forth ws (CreateEnum schema n owner) valid h =
     go_on (keyed_reader (codes "OWNER")) _ w1 owner end_of end_of (CreateEnum schema n owner) valid.2 h1 (λ w2 h2.
     (w2, refl, h2))))
 words_forth ws (AddLabel schema n text) valid h =
-    lead_on leads.Add ws _ (AddLabel schema n text) h (λ w0 h0.
+    verb_on verbs.Add ws _ (AddLabel schema n text) h (λ w0 h0.
     key_on (codes "LABEL") _ w0 (name schema ∷ mark 46 ∷ name n ∷ string text ∷ end_of) end_of (AddLabel schema n text) h0 (λ w1 h1.
     go_on qualified_reader _ w1 (record { schema = schema; name = n }) (string text ∷ end_of) end_of (AddLabel schema n text) valid h1 (λ w2 h2.
     go_on string_reader _ w2 text end_of end_of (AddLabel schema n text) tt h2 (λ w3 h3.
@@ -104,7 +104,7 @@ words_forth ws (CreateSequence schema n owner) valid h =
     go_on (keyed_reader (codes "OWNER")) _ w1 owner end_of end_of (CreateSequence schema n owner) valid.2 h1 (λ w2 h2.
     (w2, refl, h2))))
 
-alone_is : (s : Statement) (ws : List Word) → Spell ws [] → alone s ws ≡ Some s
+alone_is : (s : Statement) (ws : List Word) → Spell ws [] → at_end s ws ≡ Some s
 alone_is s [] h = refl
 alone_is s (w ∷ ws) h = absurd h
 
@@ -113,4 +113,4 @@ unfolding form
 spelled_is_read s ws valid h =
     let p = words_forth ws s valid h in
     let m = mark_there 59 p.0 [] p.2 in
-    ap (option_and_then (λ x. option_and_then (alone x.0) (mark_at 59 x.1))) p.1 ∙ ap (option_and_then (alone s)) m.1 ∙ alone_is s m.0 m.2
+    ap (option_and_then (λ x. option_and_then (at_end x.0) (mark_at 59 x.1))) p.1 ∙ ap (option_and_then (at_end s)) m.1 ∙ alone_is s m.0 m.2

@@ -7,20 +7,20 @@ use Rattle.dump_read.specs.Takes.{is_key, is_mark, word_at, rest_if, then_rest, 
 use Rattle.dump_read.proofs.OneWord.{Value, key_back, key_forth, mark_back, mark_forth}
 
 -- The words begin with some that spell the pieces, one each, and then come the rest.
-pub record Taken (ws : List Word) (front : List Piece) (rest : List Word) : Type 0 where
+pub record Consumes (ws : List Word) (front : List Piece) (rest : List Word) : Type 0 where
   pub count : length front + length rest ≡ length ws
   pub spells : (more : List Piece) → Spell rest more → Spell ws (front ++ more)
 
 -- What a reader takes, and that it takes it wherever it stands.
 pub record Reader {A : Type 0} (read : List Word → Option (A × List Word)) (pieces_of : A → List Piece) (Valid : A → Type 0) : Type 0 where
-  pub back : (ws rest : List Word) (x : A) → read ws ≡ Some (x, rest) → Valid x × Taken ws (pieces_of x) rest
+  pub back : (ws rest : List Word) (x : A) → read ws ≡ Some (x, rest) → Valid x × Consumes ws (pieces_of x) rest
   pub forth : (ws : List Word) (x : A) (more : List Piece) → Valid x → Spell ws (pieces_of x ++ more) → (rest : List Word) × (read ws ≡ Some (x, rest)) × Spell rest more
 
-pub none_taken : (ws : List Word) → Taken ws [] ws
-none_taken ws = record { count = omega arith; spells = λ more h. h }
+pub consumes_none : (ws : List Word) → Consumes ws [] ws
+consumes_none ws = record { count = omega arith; spells = λ more h. h }
 
-pub taken_then : (ws mid rest : List Word) (ps qs : List Piece) → Taken ws ps mid → Taken mid qs rest → Taken ws (ps ++ qs) rest
-taken_then ws mid rest ps qs s t = record {
+pub consumes_then : (ws mid rest : List Word) (ps qs : List Piece) → Consumes ws ps mid → Consumes mid qs rest → Consumes ws (ps ++ qs) rest
+consumes_then ws mid rest ps qs s t = record {
   count = omega (arith, length-append ps qs, s.count, t.count);
   spells = λ more h. rw (append_assoc ps qs more) (s.spells (qs ++ more) (t.spells more h));
 }
@@ -31,17 +31,17 @@ pub rest_if_some : (b : Bool) (ws rest : List Word) → rest_if b ws ≡ Some re
 rest_if_some true ws rest e = (refl, same_Some ws rest e)
 rest_if_some false ws rest e = absurd cc
 
-pub key_taken : (t : List ℕ) (ws rest : List Word) → key_at t ws ≡ Some rest → Taken ws (keyword t ∷ []) rest
+pub key_consumes : (t : List ℕ) (ws rest : List Word) → key_at t ws ≡ Some rest → Consumes ws (keyword t ∷ []) rest
 unfolding key_at word_at
-key_taken t [] rest e = absurd cc
-key_taken t (w ∷ ws) rest e =
+key_consumes t [] rest e = absurd cc
+key_consumes t (w ∷ ws) rest e =
     let p = rest_if_some (is_key t w) ws rest e in
     record { count = omega (arith, ap length p.1); spells = λ more h. (key_back t w p.0, rw p.1 h) }
 
-pub mark_taken : (b : ℕ) (ws rest : List Word) → mark_at b ws ≡ Some rest → Taken ws (mark b ∷ []) rest
+pub mark_consumes : (b : ℕ) (ws rest : List Word) → mark_at b ws ≡ Some rest → Consumes ws (mark b ∷ []) rest
 unfolding mark_at word_at
-mark_taken b [] rest e = absurd cc
-mark_taken b (w ∷ ws) rest e =
+mark_consumes b [] rest e = absurd cc
+mark_consumes b (w ∷ ws) rest e =
     let p = rest_if_some (is_mark b w) ws rest e in
     record { count = omega (arith, ap length p.1); spells = λ more h. (mark_back b w p.0, rw p.1 h) }
 
@@ -57,7 +57,7 @@ mark_there b (w ∷ ws) more h = (ws, ap (λ (b : Bool). rest_if b ws) (mark_for
 
 -- ---- one word
 
-one_back : {A : Type 0} (value : Word → Option A) (piece : A → Piece) (Valid : A → Type 0) → Value value piece Valid → (ws rest : List Word) (x : A) → one value ws ≡ Some (x, rest) → Valid x × Taken ws (piece x ∷ []) rest
+one_back : {A : Type 0} (value : Word → Option A) (piece : A → Piece) (Valid : A → Type 0) → Value value piece Valid → (ws rest : List Word) (x : A) → one value ws ≡ Some (x, rest) → Valid x × Consumes ws (piece x ∷ []) rest
 unfolding one word_at
 one_back value piece Valid v [] rest x e = absurd cc
 one_back value piece Valid v (w ∷ ws) rest x e =
@@ -77,15 +77,15 @@ one_reader {A} {value} {piece} {Valid} v = record { back = one_back value piece 
 -- ---- steps of a chain, back from what it read
 
 pub step : {A B P : Type 0} {read : List Word → Option (A × List Word)} {pieces_of : A → List Piece} {Valid : A → Type 0} → Reader read pieces_of Valid → (f : A × List Word → Option B) (ws : List Word) (y : B)
-    → option_and_then f (read ws) ≡ Some y → ((x : A) (rest : List Word) → Valid x → Taken ws (pieces_of x) rest → f (x, rest) ≡ Some y → P) → P
+    → option_and_then f (read ws) ≡ Some y → ((x : A) (rest : List Word) → Valid x → Consumes ws (pieces_of x) rest → f (x, rest) ≡ Some y → P) → P
 step {A} {B} {P} {read} {pieces_of} {Valid} r f ws y e go =
     option_and_then_some f (read ws) y e (λ x ex made. let p = r.back ws x.1 x.0 ex in go x.0 x.1 p.0 p.1 made)
 
-pub key_step : {B P : Type 0} (t : List ℕ) (f : List Word → Option B) (ws : List Word) (y : B) → option_and_then f (key_at t ws) ≡ Some y → ((rest : List Word) → Taken ws (keyword t ∷ []) rest → f rest ≡ Some y → P) → P
-key_step t f ws y e go = option_and_then_some f (key_at t ws) y e (λ rest found made. go rest (key_taken t ws rest found) made)
+pub key_step : {B P : Type 0} (t : List ℕ) (f : List Word → Option B) (ws : List Word) (y : B) → option_and_then f (key_at t ws) ≡ Some y → ((rest : List Word) → Consumes ws (keyword t ∷ []) rest → f rest ≡ Some y → P) → P
+key_step t f ws y e go = option_and_then_some f (key_at t ws) y e (λ rest found made. go rest (key_consumes t ws rest found) made)
 
-pub mark_step : {B P : Type 0} (b : ℕ) (f : List Word → Option B) (ws : List Word) (y : B) → option_and_then f (mark_at b ws) ≡ Some y → ((rest : List Word) → Taken ws (mark b ∷ []) rest → f rest ≡ Some y → P) → P
-mark_step b f ws y e go = option_and_then_some f (mark_at b ws) y e (λ rest found made. go rest (mark_taken b ws rest found) made)
+pub mark_step : {B P : Type 0} (b : ℕ) (f : List Word → Option B) (ws : List Word) (y : B) → option_and_then f (mark_at b ws) ≡ Some y → ((rest : List Word) → Consumes ws (mark b ∷ []) rest → f rest ≡ Some y → P) → P
+mark_step b f ws y e go = option_and_then_some f (mark_at b ws) y e (λ rest found made. go rest (mark_consumes b ws rest found) made)
 
 -- ---- steps of a chain, on from what stands there
 

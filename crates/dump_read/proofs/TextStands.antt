@@ -3,7 +3,7 @@ use Rattle.std.proofs.Common.{◌≡◌, ℕ, zero, suc, ◌<◌, ◌&&◌, not,
 use Rattle.std.specs.Prelude.{nat_eq}
 use Rattle.std.proofs.lemmas.Bool.{and_parts, and_from, and_left, not-true, eqb-true}
 use Rattle.dump_lex.specs.declared.token.TokenKind.TheVariants as tokens
-use Rattle.dump_lex.specs.Place.{Place, Spot, next, rest_of}
+use Rattle.dump_lex.specs.Place.{Place, PlacedToken, next, rest_of}
 use Rattle.dump_lex.specs.Reading.{Reads, word_of}
 use Rattle.dump_lex.proofs.Readings.{next_within}
 use Rattle.dump_grammar.specs.declared.error.TextError.{TextError}
@@ -16,7 +16,7 @@ use Rattle.dump_grammar.specs.Pieces.{Piece, keyword, plain, mark, name, number,
 use Rattle.dump_grammar.specs.Spelling.{Word, Writes, Spell, IsStatement}
 use Rattle.dump_read.specs.Takes.{is_mark_kind, is_mark}
 use Rattle.dump_read.specs.Form.{is_end, form}
-use Rattle.dump_read.specs.Reading.{◌>>=◌, Front, gathered, with_spots, gather, Said, said_as, said_of, statement_at}
+use Rattle.dump_read.specs.Reading.{◌>>=◌, Front, gathered, with_tokens, gather, PlacedStatement, placed_as, placed_of, statement_at}
 use Rattle.dump_read.specs.Laws.{SpellAll, SpelledTextStands}
 use Rattle.dump_read.proofs.OneWord.{mark_not, mark_forth}
 use Rattle.dump_read.proofs.ColumnReader.{name_no_mark}
@@ -126,8 +126,8 @@ other_word w (hex bs) h e = mark_not 59 w (ap is_mark_kind h.0)
 
 -- the tokens of the front words are gathered, and the tokens of the rest stand behind
 record Gathered (n : ℕ) (p : Place) (front rest : List Word) : Type 0 where
-  tokens : List Spot
-  later : List Spot
+  tokens : List PlacedToken
+  later : List PlacedToken
   after : Place
   is : gather n p ≡ Ok (tokens, after)
   words : map word_of tokens ≡ front
@@ -138,17 +138,17 @@ record Gathered (n : ℕ) (p : Place) (front rest : List Word) : Type 0 where
 same_cons : {A : Type 0} (x y : A) (xs ys : List A) → x ∷ xs ≡ y ∷ ys → (x ≡ y) × (xs ≡ ys)
 same_cons x y xs ys e = (cc, cc)
 
-gather_last : (n : ℕ) (p q : Place) (t : Spot) → next p ≡ Ok (Some (t, q)) → is_end (word_of t) ≡ true → gather (suc n) p ≡ Ok (t ∷ [], q)
+gather_last : (n : ℕ) (p q : Place) (t : PlacedToken) → next p ≡ Ok (Some (t, q)) → is_end (word_of t) ≡ true → gather (suc n) p ≡ Ok (t ∷ [], q)
 unfolding gather
 gather_last n p q t h e =
-    ap (gathered (gather n) p) h ∙ ap (λ (b : Bool). cond b (Ok (t ∷ [], q)) (with_spots (t ∷ []) (gather n q))) e
+    ap (gathered (gather n) p) h ∙ ap (λ (b : Bool). cond b (Ok (t ∷ [], q)) (with_tokens (t ∷ []) (gather n q))) e
 
-gather_on : (n : ℕ) (p q after : Place) (t : Spot) (ts : List Spot) → next p ≡ Ok (Some (t, q)) → is_end (word_of t) ≡ false → gather n q ≡ Ok (ts, after) → gather (suc n) p ≡ Ok (t ∷ ts, after)
+gather_on : (n : ℕ) (p q after : Place) (t : PlacedToken) (ts : List PlacedToken) → next p ≡ Ok (Some (t, q)) → is_end (word_of t) ≡ false → gather n q ≡ Ok (ts, after) → gather (suc n) p ≡ Ok (t ∷ ts, after)
 unfolding gather
 gather_on n p q after t ts h e g =
-    ap (gathered (gather n) p) h ∙ ap (λ (b : Bool). cond b (Ok (t ∷ [], q)) (with_spots (t ∷ []) (gather n q))) e ∙ ap (with_spots (t ∷ [])) g
+    ap (gathered (gather n) p) h ∙ ap (λ (b : Bool). cond b (Ok (t ∷ [], q)) (with_tokens (t ∷ []) (gather n q))) e ∙ ap (with_tokens (t ∷ [])) g
 
-gathers : (ps : List Piece) (n : ℕ) (p : Place) (tokens : List Spot) (front rest : List Word) → length (rest_of p) < n → Reads p tokens None → map word_of tokens ≡ front ++ rest → Spell front ps → ends_once ps ≡ true → Gathered n p front rest
+gathers : (ps : List Piece) (n : ℕ) (p : Place) (tokens : List PlacedToken) (front rest : List Word) → length (rest_of p) < n → Reads p tokens None → map word_of tokens ≡ front ++ rest → Spell front ps → ends_once ps ≡ true → Gathered n p front rest
 gathers [] n p tokens front rest lt reads words spell once = absurd cc
 gathers (x ∷ ps) n p tokens [] rest lt reads words spell once = absurd spell
 gathers (x ∷ ps) n p [] (w ∷ ws) rest lt reads words spell once = absurd cc
@@ -193,34 +193,34 @@ nothing_spelled s (w ∷ ws) e h = absurd cc
 
 -- the statement stands, and behind it the tokens of the rest
 record Found (p : Place) (s : Statement) (rest : List Word) : Type 0 where
-  said : Said
-  later : List Spot
-  is : statement_at p ≡ Ok (Some said)
-  statement : said.statement ≡ s
-  reads : Reads said.after later None
+  placed : PlacedStatement
+  later : List PlacedToken
+  is : statement_at p ≡ Ok (Some placed)
+  statement : placed.statement ≡ s
+  reads : Reads placed.after later None
   behind : map word_of later ≡ rest
-  less : length (rest_of said.after) < length (rest_of p)
+  less : length (rest_of placed.after) < length (rest_of p)
 
-found_of : (p : Place) (s : Statement) (front rest : List Word) (tokens : List Spot) (g : Gathered (suc (length (rest_of p))) p front rest) → g.tokens ≡ tokens → IsStatement s → Spell front (pieces s) → Found p s rest
+found_of : (p : Place) (s : Statement) (front rest : List Word) (tokens : List PlacedToken) (g : Gathered (suc (length (rest_of p))) p front rest) → g.tokens ≡ tokens → IsStatement s → Spell front (pieces s) → Found p s rest
 unfolding statement_at
 found_of p s front rest [] g same valid spell = absurd (nothing_spelled s front (sym g.words ∙ ap (map word_of) same) spell)
 found_of p s front rest (t ∷ ts) g same valid spell =
     let line : ℕ = t.line in
     let read : form (map word_of (t ∷ ts)) ≡ Some s = ap form (ap (map word_of) (sym same) ∙ g.words) ∙ spelled_is_read s front valid spell in
-    let gather_is : gather (suc (length (rest_of p))) p ≡ Ok (t ∷ ts, g.after) = g.is ∙ ap (λ (ts : List Spot). Ok (ts, g.after)) same in
+    let gather_is : gather (suc (length (rest_of p))) p ≡ Ok (t ∷ ts, g.after) = g.is ∙ ap (λ (ts : List PlacedToken). Ok (ts, g.after)) same in
     record {
-      said = record { line = line; statement = s; after = g.after };
+      placed = record { line = line; statement = s; after = g.after };
       later = g.later;
-      is = ap (λ (r : Result Front TextError). r >>= said_of) gather_is ∙ ap (said_as line g.after) read;
+      is = ap (λ (r : Result Front TextError). r >>= placed_of) gather_is ∙ ap (placed_as line g.after) read;
       statement = refl;
       reads = g.reads;
       behind = g.behind;
       less = g.less;
     }
 
-nothing_behind : (p : Place) (tokens : List Spot) → Reads p tokens None → map word_of tokens ≡ [] → statement_at p ≡ Ok None
+nothing_behind : (p : Place) (tokens : List PlacedToken) → Reads p tokens None → map word_of tokens ≡ [] → statement_at p ≡ Ok None
 unfolding statement_at gather
-nothing_behind p [] reads e = ap (λ r. gathered (gather (length (rest_of p))) p r >>= said_of) reads
+nothing_behind p [] reads e = ap (λ r. gathered (gather (length (rest_of p))) p r >>= placed_of) reads
 nothing_behind p (t ∷ ts) reads e = absurd cc
 
 pub spelled_text_stands : SpelledTextStands
@@ -228,5 +228,5 @@ spelled_text_stands p tokens [] reads spell valid = ([], p, refl, refl, nothing_
 spelled_text_stands p tokens (s ∷ ss) reads spell valid =
     let g = gathers (pieces s) (suc (length (rest_of p))) p tokens spell.0 spell.1 (omega arith) reads spell.2 spell.3 (pieces_once s) in
     let f = found_of p s spell.0 spell.1 g.tokens g refl valid.0 spell.3 in
-    let r = spelled_text_stands f.said.after f.later ss f.reads (subst (λ ws. SpellAll ws ss) (sym f.behind) spell.4) valid.1 in
-    (f.said ∷ r.0, r.1, (f.is, r.2), (λ i. f.statement i ∷ r.3 i), r.4, omega (arith, f.less, r.5))
+    let r = spelled_text_stands f.placed.after f.later ss f.reads (subst (λ ws. SpellAll ws ss) (sym f.behind) spell.4) valid.1 in
+    (f.placed ∷ r.0, r.1, (f.is, r.2), (λ i. f.statement i ∷ r.3 i), r.4, omega (arith, f.less, r.5))

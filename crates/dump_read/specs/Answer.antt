@@ -1,11 +1,11 @@
 -- What a reader of words answers.
 use Rattle.std.specs.Prelude.{◌≡◌, Bool, true, false, List, [], ◌∷◌, Option, Some, None, Result, Ok, Err}
 use Rattle.dump_grammar.specs.Spelling.{Word}
-use Rattle.dump_read.specs.declared.refusal.Refusal.{Refusal}
-use Rattle.dump_read.specs.declared.refusal.Refusal.TheVariants.{Unknown}
+use Rattle.dump_read.specs.declared.error.ReadError.{ReadError}
+use Rattle.dump_read.specs.declared.error.ReadError.TheVariants.{Unknown}
 
 -- What was answered, seen by view, is what was to be found; it is Unknown only where nothing was.
-abbrev pub Answers : {X Y : Type 0} → (X → Y) → Result X Refusal → Option Y → Type 0
+abbrev pub Answers : {X Y : Type 0} → (X → Y) → Result X ReadError → Option Y → Type 0
 Answers view (Ok x) found = found ≡ Some (view x)
 Answers view (Err e) found = e ≡ Unknown → found ≡ None
 

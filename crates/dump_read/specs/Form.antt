@@ -7,8 +7,8 @@ use Rattle.dump_grammar.specs.declared.columns.NamedKind.TheVariants.{Base, Enum
 use Rattle.dump_grammar.specs.declared.columns.ColumnText.{ColumnText}
 use Rattle.dump_grammar.specs.Spelling.{Word}
 use Rattle.dump_read.specs.declared.parts.Qualified.{Qualified}
-use Rattle.dump_read.specs.declared.heads.Lead.{Lead}
-use Rattle.dump_read.specs.declared.heads.Lead.TheVariants as leads
+use Rattle.dump_read.specs.declared.heads.Verb.{Verb}
+use Rattle.dump_read.specs.declared.heads.Verb.TheVariants as verbs
 use Rattle.dump_read.specs.declared.heads.Object.{Object}
 use Rattle.dump_read.specs.declared.heads.Object.TheVariants as objects
 use Rattle.dump_read.specs.Takes as takes
@@ -127,19 +127,19 @@ keys_at ws = mark_at 40 ws >>= closed_at (one column_number_in)
 -- ---- statements, without the `;`
 
 -- the word that a statement begins with
-abbrev pub lead_word : Lead → List ℕ
-lead_word leads.Bootstrap = codes "BOOTSTRAP"
-lead_word leads.Set = codes "SET"
-lead_word leads.Create = codes "CREATE"
-lead_word leads.Alter = codes "ALTER"
-lead_word leads.Connect = codes "CONNECT"
-lead_word leads.Add = codes "ADD"
+abbrev pub verb_word : Verb → List ℕ
+verb_word verbs.Bootstrap = codes "BOOTSTRAP"
+verb_word verbs.Set = codes "SET"
+verb_word verbs.Create = codes "CREATE"
+verb_word verbs.Alter = codes "ALTER"
+verb_word verbs.Connect = codes "CONNECT"
+verb_word verbs.Add = codes "ADD"
 
-abbrev pub leads_all : List Lead
-leads_all = leads.Bootstrap ∷ leads.Set ∷ leads.Create ∷ leads.Alter ∷ leads.Connect ∷ leads.Add ∷ []
+abbrev pub verbs_all : List Verb
+verbs_all = verbs.Bootstrap ∷ verbs.Set ∷ verbs.Create ∷ verbs.Alter ∷ verbs.Connect ∷ verbs.Add ∷ []
 
-unfoldable pub lead_in : Word → Option Lead
-lead_in w = find (λ lead. is_key (lead_word lead) w) leads_all
+unfoldable pub verb_in : Word → Option Verb
+verb_in w = find (λ verb. is_key (verb_word verb) w) verbs_all
 
 -- the word behind CREATE
 abbrev pub object_word : Object → List ℕ
@@ -255,26 +255,26 @@ unfoldable pub create_at : List Word → Read
 create_at ws = one object_in ws >>= λ x. created_at x.0 x.1
 
 -- behind the first word
-abbrev pub led_at : Lead → List Word → Read
-led_at leads.Bootstrap ws = bootstrap_at ws
-led_at leads.Set ws = next_at ws
-led_at leads.Create ws = create_at ws
-led_at leads.Alter ws = altered_at ws
-led_at leads.Connect ws = connect_at ws
-led_at leads.Add ws = label_at ws
+abbrev pub behind_verb : Verb → List Word → Read
+behind_verb verbs.Bootstrap ws = bootstrap_at ws
+behind_verb verbs.Set ws = next_at ws
+behind_verb verbs.Create ws = create_at ws
+behind_verb verbs.Alter ws = altered_at ws
+behind_verb verbs.Connect ws = connect_at ws
+behind_verb verbs.Add ws = label_at ws
 
 unfoldable pub words_at : List Word → Read
-words_at ws = one lead_in ws >>= λ x. led_at x.0 x.1
+words_at ws = one verb_in ws >>= λ x. behind_verb x.0 x.1
 
 -- ---- whole statements
 
-abbrev pub alone : Statement → List Word → Option Statement
-alone s [] = Some s
-alone s (w ∷ ws) = None
+abbrev pub at_end : Statement → List Word → Option Statement
+at_end s [] = Some s
+at_end s (w ∷ ws) = None
 
 -- the statement that words, the `;` with them, spell
 unfoldable pub form : List Word → Option Statement
 form ws = do
   x ← words_at ws
   rest ← mark_at 59 x.1
-  alone x.0 rest
+  at_end x.0 rest

@@ -2,5 +2,6 @@ pub mod Answer
 pub mod Takes
 pub mod Form
 pub mod Reading
-pub mod Saying
+pub mod Ahead
+pub mod Placed
 pub mod Laws

@@ -5,7 +5,7 @@ ghost use Rattle.dump_read.specs.Answer.{Answers};
 ghost use Rattle.dump_read.specs.Takes.{column_number_in, one};
 ghost use Rattle.dump_read.specs.Form.{missing_at, base_at, enum_at, column_kind_at, live_at, dropped_at, column_at, with_items, more_at, items_at, closed_at, columns_in_at, columns_at, keys_at};
 
-use crate::refusal::Refusal;
+use crate::error::ReadError;
 use crate::words::Words;
 use catalog::Keys;
 use dump_grammar::{ColumnText, ColumnTexts, NamedKind};
@@ -13,7 +13,7 @@ use fs_model::{Bytes, Text};
 use std::alloc::Global;
 
 #[tactic(auto, unfolding(crate::specs::Form::missing_at))]
-fn missing(alloc: Global, words: &mut Words<'_>) -> Result<Option<Bytes>, Refusal>
+fn missing(alloc: Global, words: &mut Words<'_>) -> Result<Option<Bytes>, ReadError>
     ensures { Answers (λ o. (o, words.new)) result (missing_at words.old) }
 {
     if words.takes_key(b"MISSING") {
@@ -24,14 +24,14 @@ fn missing(alloc: Global, words: &mut Words<'_>) -> Result<Option<Bytes>, Refusa
 }
 
 #[tactic(auto, unfolding(crate::specs::Form::base_at))]
-fn base(words: &mut Words<'_>) -> Result<NamedKind, Refusal>
+fn base(words: &mut Words<'_>) -> Result<NamedKind, ReadError>
     ensures { Answers (λ k. (k, words.new)) result (base_at words.old) }
 {
     Ok(NamedKind::Base(words.base_type()?))
 }
 
 #[tactic(auto, unfolding(crate::specs::Form::enum_at))]
-fn enum_kind(alloc: Global, words: &mut Words<'_>) -> Result<NamedKind, Refusal>
+fn enum_kind(alloc: Global, words: &mut Words<'_>) -> Result<NamedKind, ReadError>
     ensures { Answers (λ k. (k, words.new)) result (enum_at words.old) }
 {
     let place = words.qualified(alloc)?;
@@ -39,7 +39,7 @@ fn enum_kind(alloc: Global, words: &mut Words<'_>) -> Result<NamedKind, Refusal>
 }
 
 #[tactic(auto, unfolding(crate::specs::Form::column_kind_at))]
-fn column_kind(alloc: Global, words: &mut Words<'_>) -> Result<NamedKind, Refusal>
+fn column_kind(alloc: Global, words: &mut Words<'_>) -> Result<NamedKind, ReadError>
     ensures { Answers (λ k. (k, words.new)) result (column_kind_at words.old) }
 {
     if words.takes_key(b"ENUM") {
@@ -50,7 +50,7 @@ fn column_kind(alloc: Global, words: &mut Words<'_>) -> Result<NamedKind, Refusa
 }
 
 #[tactic(auto, unfolding(crate::specs::Form::live_at))]
-fn live(alloc: Global, words: &mut Words<'_>) -> Result<ColumnText, Refusal>
+fn live(alloc: Global, words: &mut Words<'_>) -> Result<ColumnText, ReadError>
     ensures { Answers (λ c. (c, words.new)) result (live_at words.old) }
 {
     let name = words.name(alloc)?;
@@ -64,7 +64,7 @@ fn live(alloc: Global, words: &mut Words<'_>) -> Result<ColumnText, Refusal>
 }
 
 #[tactic(auto, unfolding(crate::specs::Form::dropped_at))]
-fn dropped(alloc: Global, words: &mut Words<'_>) -> Result<ColumnText, Refusal>
+fn dropped(alloc: Global, words: &mut Words<'_>) -> Result<ColumnText, ReadError>
     ensures { Answers (λ c. (c, words.new)) result (dropped_at words.old) }
 {
     let length = words.dropped_length()?;
@@ -77,7 +77,7 @@ fn dropped(alloc: Global, words: &mut Words<'_>) -> Result<ColumnText, Refusal>
 }
 
 #[tactic(auto, unfolding(crate::specs::Form::column_at))]
-fn column(alloc: Global, words: &mut Words<'_>) -> Result<ColumnText, Refusal>
+fn column(alloc: Global, words: &mut Words<'_>) -> Result<ColumnText, ReadError>
     ensures { Answers (λ c. (c, words.new)) result (column_at words.old) }
 {
     if words.takes_key(b"DROPPED") {
@@ -92,7 +92,7 @@ fn more_columns(
     alloc: Global,
     words: &mut Words<'_>,
     columns: &mut Vec<ColumnText>,
-) -> Result<(), Refusal>
+) -> Result<(), ReadError>
     ensures { Answers (λ _. (columns.new.items, words.new)) result (with_items columns.old.items (more_at column_at (suc (length words.old)) words.old)) }
 {
     'columns: while words.takes_mark(b',') {
@@ -102,7 +102,7 @@ fn more_columns(
 }
 
 #[tactic(auto, unfolding(crate::specs::Form::items_at))]
-fn columns(alloc: Global, words: &mut Words<'_>) -> Result<Vec<ColumnText>, Refusal>
+fn columns(alloc: Global, words: &mut Words<'_>) -> Result<Vec<ColumnText>, ReadError>
     ensures { Answers (λ v. (v.items, words.new)) result (items_at column_at words.old) }
 {
     let mut columns = Vec::new(alloc);
@@ -112,7 +112,7 @@ fn columns(alloc: Global, words: &mut Words<'_>) -> Result<Vec<ColumnText>, Refu
 }
 
 #[tactic(auto, unfolding(crate::specs::Form::closed_at))]
-fn closed_columns(alloc: Global, words: &mut Words<'_>) -> Result<ColumnTexts, Refusal>
+fn closed_columns(alloc: Global, words: &mut Words<'_>) -> Result<ColumnTexts, ReadError>
     ensures { Answers (λ v. (v, words.new)) result (closed_at column_at words.old) }
 {
     let columns = columns(alloc, words)?;
@@ -121,7 +121,7 @@ fn closed_columns(alloc: Global, words: &mut Words<'_>) -> Result<ColumnTexts, R
 }
 
 #[tactic(auto, unfolding(crate::specs::Form::columns_in_at))]
-fn columns_inside(alloc: Global, words: &mut Words<'_>) -> Result<ColumnTexts, Refusal>
+fn columns_inside(alloc: Global, words: &mut Words<'_>) -> Result<ColumnTexts, ReadError>
     ensures { Answers (λ v. (v, words.new)) result (columns_in_at words.old) }
 {
     if words.takes_mark(b')') {
@@ -132,7 +132,7 @@ fn columns_inside(alloc: Global, words: &mut Words<'_>) -> Result<ColumnTexts, R
 }
 
 // The keys that follow, each behind a comma.
-fn more_keys(words: &mut Words<'_>, keys: &mut Vec<u16>) -> Result<(), Refusal>
+fn more_keys(words: &mut Words<'_>, keys: &mut Vec<u16>) -> Result<(), ReadError>
     ensures { Answers (λ _. (keys.new.items, words.new)) result (with_items keys.old.items (more_at (one column_number_in) (suc (length words.old)) words.old)) }
 {
     'keys: while words.takes_mark(b',') {
@@ -142,7 +142,7 @@ fn more_keys(words: &mut Words<'_>, keys: &mut Vec<u16>) -> Result<(), Refusal>
 }
 
 #[tactic(auto, unfolding(crate::specs::Form::items_at))]
-fn keys(alloc: Global, words: &mut Words<'_>) -> Result<Vec<u16>, Refusal>
+fn keys(alloc: Global, words: &mut Words<'_>) -> Result<Vec<u16>, ReadError>
     ensures { Answers (λ v. (v.items, words.new)) result (items_at (one column_number_in) words.old) }
 {
     let mut keys = Vec::new(alloc);
@@ -152,7 +152,7 @@ fn keys(alloc: Global, words: &mut Words<'_>) -> Result<Vec<u16>, Refusal>
 }
 
 #[tactic(auto, unfolding(crate::specs::Form::closed_at))]
-fn closed_keys(alloc: Global, words: &mut Words<'_>) -> Result<Keys, Refusal>
+fn closed_keys(alloc: Global, words: &mut Words<'_>) -> Result<Keys, ReadError>
     ensures { Answers (λ v. (v, words.new)) result (closed_at (one column_number_in) words.old) }
 {
     let keys = keys(alloc, words)?;
@@ -163,7 +163,7 @@ fn closed_keys(alloc: Global, words: &mut Words<'_>) -> Result<Keys, Refusal>
 impl<'a> Words<'a> {
     // Columns in parentheses: none or more.
     #[tactic(auto, unfolding(crate::specs::Form::columns_at))]
-    pub fn columns(&mut self, alloc: Global) -> Result<ColumnTexts, Refusal>
+    pub fn columns(&mut self, alloc: Global) -> Result<ColumnTexts, ReadError>
         ensures { Answers (λ v. (v, self.new)) result (columns_at self.old) }
     {
         self.mark(b'(')?;
@@ -172,7 +172,7 @@ impl<'a> Words<'a> {
 
     // Numbers of columns in parentheses: one or more.
     #[tactic(auto, unfolding(crate::specs::Form::keys_at))]
-    pub fn keys(&mut self, alloc: Global) -> Result<Keys, Refusal>
+    pub fn keys(&mut self, alloc: Global) -> Result<Keys, ReadError>
         ensures { Answers (λ v. (v, self.new)) result (keys_at self.old) }
     {
         self.mark(b'(')?;

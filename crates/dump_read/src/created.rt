@@ -3,21 +3,21 @@
 ghost use Rattle.dump_read.specs.Answer.{Answers};
 ghost use Rattle.dump_read.specs.Form.{role_at, tablespace_made_at, database_at, schema_at, enum_made_at, table_at, index_at, sequence_at, created_at, create_at};
 
+use crate::error::ReadError;
 use crate::heads::Object;
-use crate::refusal::Refusal;
 use crate::words::Words;
 use dump_grammar::Statement;
 use std::alloc::Global;
 
 #[tactic(auto, unfolding(crate::specs::Form::role_at))]
-fn role(alloc: Global, words: &mut Words<'_>) -> Result<Statement, Refusal>
+fn role(alloc: Global, words: &mut Words<'_>) -> Result<Statement, ReadError>
     ensures { Answers (λ s. (s, words.new)) result (role_at words.old) }
 {
     Ok(Statement::CreateRole(words.name(alloc)?))
 }
 
 #[tactic(auto, unfolding(crate::specs::Form::tablespace_made_at))]
-fn tablespace(alloc: Global, words: &mut Words<'_>) -> Result<Statement, Refusal>
+fn tablespace(alloc: Global, words: &mut Words<'_>) -> Result<Statement, ReadError>
     ensures { Answers (λ s. (s, words.new)) result (tablespace_made_at words.old) }
 {
     let name = words.name(alloc)?;
@@ -32,7 +32,7 @@ fn tablespace(alloc: Global, words: &mut Words<'_>) -> Result<Statement, Refusal
 }
 
 #[tactic(auto, unfolding(crate::specs::Form::database_at))]
-fn database(alloc: Global, words: &mut Words<'_>) -> Result<Statement, Refusal>
+fn database(alloc: Global, words: &mut Words<'_>) -> Result<Statement, ReadError>
     ensures { Answers (λ s. (s, words.new)) result (database_at words.old) }
 {
     let name = words.name(alloc)?;
@@ -41,7 +41,7 @@ fn database(alloc: Global, words: &mut Words<'_>) -> Result<Statement, Refusal>
 }
 
 #[tactic(auto, unfolding(crate::specs::Form::schema_at))]
-fn schema(alloc: Global, words: &mut Words<'_>) -> Result<Statement, Refusal>
+fn schema(alloc: Global, words: &mut Words<'_>) -> Result<Statement, ReadError>
     ensures { Answers (λ s. (s, words.new)) result (schema_at words.old) }
 {
     let name = words.name(alloc)?;
@@ -50,7 +50,7 @@ fn schema(alloc: Global, words: &mut Words<'_>) -> Result<Statement, Refusal>
 }
 
 #[tactic(auto, unfolding(crate::specs::Form::enum_made_at))]
-fn enum_type(alloc: Global, words: &mut Words<'_>) -> Result<Statement, Refusal>
+fn enum_type(alloc: Global, words: &mut Words<'_>) -> Result<Statement, ReadError>
     ensures { Answers (λ s. (s, words.new)) result (enum_made_at words.old) }
 {
     let place = words.qualified(alloc)?;
@@ -63,7 +63,7 @@ fn enum_type(alloc: Global, words: &mut Words<'_>) -> Result<Statement, Refusal>
 }
 
 #[tactic(auto, unfolding(crate::specs::Form::table_at))]
-fn table(alloc: Global, words: &mut Words<'_>) -> Result<Statement, Refusal>
+fn table(alloc: Global, words: &mut Words<'_>) -> Result<Statement, ReadError>
     ensures { Answers (λ s. (s, words.new)) result (table_at words.old) }
 {
     let place = words.qualified(alloc)?;
@@ -80,7 +80,7 @@ fn table(alloc: Global, words: &mut Words<'_>) -> Result<Statement, Refusal>
 }
 
 #[tactic(auto, unfolding(crate::specs::Form::index_at))]
-fn index(alloc: Global, words: &mut Words<'_>) -> Result<Statement, Refusal>
+fn index(alloc: Global, words: &mut Words<'_>) -> Result<Statement, ReadError>
     ensures { Answers (λ s. (s, words.new)) result (index_at words.old) }
 {
     let name = words.name(alloc)?;
@@ -98,7 +98,7 @@ fn index(alloc: Global, words: &mut Words<'_>) -> Result<Statement, Refusal>
 }
 
 #[tactic(auto, unfolding(crate::specs::Form::sequence_at))]
-fn sequence(alloc: Global, words: &mut Words<'_>) -> Result<Statement, Refusal>
+fn sequence(alloc: Global, words: &mut Words<'_>) -> Result<Statement, ReadError>
     ensures { Answers (λ s. (s, words.new)) result (sequence_at words.old) }
 {
     let place = words.qualified(alloc)?;
@@ -110,7 +110,7 @@ fn sequence(alloc: Global, words: &mut Words<'_>) -> Result<Statement, Refusal>
     })
 }
 
-fn created(alloc: Global, object: Object, words: &mut Words<'_>) -> Result<Statement, Refusal>
+fn created(alloc: Global, object: Object, words: &mut Words<'_>) -> Result<Statement, ReadError>
     ensures { Answers (λ s. (s, words.new)) result (created_at object words.old) }
 {
     match object {
@@ -126,7 +126,7 @@ fn created(alloc: Global, object: Object, words: &mut Words<'_>) -> Result<State
 }
 
 #[tactic(auto, unfolding(crate::specs::Form::create_at))]
-pub fn create(alloc: Global, words: &mut Words<'_>) -> Result<Statement, Refusal>
+pub fn create(alloc: Global, words: &mut Words<'_>) -> Result<Statement, ReadError>
     ensures { Answers (λ s. (s, words.new)) result (create_at words.old) }
 {
     let object = words.object()?;

@@ -1,27 +1,25 @@
 // Which statement some tokens are.
 
-ghost use Rattle.std.specs.Prelude.{map};
-ghost use Rattle.dump_grammar.specs.Spelling.{word_of};
+ghost use Rattle.std.specs.Prelude.{◌≡◌, IfErr};
 ghost use Rattle.dump_read.specs.Answer.{Answers};
-ghost use Rattle.dump_read.specs.Form.{bootstrap_at, next_at, altered_at, connect_at, label_at, led_at, words_at, alone, form};
+ghost use Rattle.dump_read.specs.Form.{bootstrap_at, next_at, altered_at, connect_at, label_at, behind_verb, words_at, at_end, form};
 
 use crate::created::create;
-use crate::heads::Lead;
-use crate::refusal::Refusal;
+use crate::error::ReadError;
+use crate::heads::Verb;
 use crate::words::Words;
 use dump_grammar::Statement;
-use dump_lex::Token;
 use std::alloc::Global;
 
 #[tactic(auto, unfolding(crate::specs::Form::bootstrap_at))]
-fn bootstrap(alloc: Global, words: &mut Words<'_>) -> Result<Statement, Refusal>
+fn bootstrap(alloc: Global, words: &mut Words<'_>) -> Result<Statement, ReadError>
     ensures { Answers (λ s. (s, words.new)) result (bootstrap_at words.old) }
 {
     Ok(Statement::Bootstrap(words.name(alloc)?))
 }
 
 #[tactic(auto, unfolding(crate::specs::Form::next_at))]
-fn set_next(words: &mut Words<'_>) -> Result<Statement, Refusal>
+fn set_next(words: &mut Words<'_>) -> Result<Statement, ReadError>
     ensures { Answers (λ s. (s, words.new)) result (next_at words.old) }
 {
     words.key(b"NEXT")?;
@@ -31,7 +29,7 @@ fn set_next(words: &mut Words<'_>) -> Result<Statement, Refusal>
 }
 
 #[tactic(auto, unfolding(crate::specs::Form::altered_at))]
-fn alter(alloc: Global, words: &mut Words<'_>) -> Result<Statement, Refusal>
+fn alter(alloc: Global, words: &mut Words<'_>) -> Result<Statement, ReadError>
     ensures { Answers (λ s. (s, words.new)) result (altered_at words.old) }
 {
     let name = words.keyed_name(alloc, b"DATABASE")?;
@@ -41,14 +39,14 @@ fn alter(alloc: Global, words: &mut Words<'_>) -> Result<Statement, Refusal>
 }
 
 #[tactic(auto, unfolding(crate::specs::Form::connect_at))]
-fn connect(alloc: Global, words: &mut Words<'_>) -> Result<Statement, Refusal>
+fn connect(alloc: Global, words: &mut Words<'_>) -> Result<Statement, ReadError>
     ensures { Answers (λ s. (s, words.new)) result (connect_at words.old) }
 {
     Ok(Statement::Connect(words.name(alloc)?))
 }
 
 #[tactic(auto, unfolding(crate::specs::Form::label_at))]
-fn add_label(alloc: Global, words: &mut Words<'_>) -> Result<Statement, Refusal>
+fn add_label(alloc: Global, words: &mut Words<'_>) -> Result<Statement, ReadError>
     ensures { Answers (λ s. (s, words.new)) result (label_at words.old) }
 {
     words.key(b"LABEL")?;
@@ -61,44 +59,44 @@ fn add_label(alloc: Global, words: &mut Words<'_>) -> Result<Statement, Refusal>
     })
 }
 
-fn led(alloc: Global, lead: Lead, words: &mut Words<'_>) -> Result<Statement, Refusal>
-    ensures { Answers (λ s. (s, words.new)) result (led_at lead words.old) }
+fn behind_verb(alloc: Global, verb: Verb, words: &mut Words<'_>) -> Result<Statement, ReadError>
+    ensures { Answers (λ s. (s, words.new)) result (behind_verb verb words.old) }
 {
-    match lead {
-        Lead::Bootstrap => bootstrap(alloc, words),
-        Lead::Set => set_next(words),
-        Lead::Create => create(alloc, words),
-        Lead::Alter => alter(alloc, words),
-        Lead::Connect => connect(alloc, words),
-        Lead::Add => add_label(alloc, words),
+    match verb {
+        Verb::Bootstrap => bootstrap(alloc, words),
+        Verb::Set => set_next(words),
+        Verb::Create => create(alloc, words),
+        Verb::Alter => alter(alloc, words),
+        Verb::Connect => connect(alloc, words),
+        Verb::Add => add_label(alloc, words),
     }
 }
 
 #[tactic(auto, unfolding(crate::specs::Form::words_at))]
-fn statement(alloc: Global, words: &mut Words<'_>) -> Result<Statement, Refusal>
+fn statement(alloc: Global, words: &mut Words<'_>) -> Result<Statement, ReadError>
     ensures { Answers (λ s. (s, words.new)) result (words_at words.old) }
 {
-    let lead = words.lead()?;
-    led(alloc, lead, words)
+    let verb = words.verb()?;
+    behind_verb(alloc, verb, words)
 }
 
-fn alone(statement: Statement, words: &Words<'_>) -> Result<Statement, Refusal>
-    ensures { Answers (λ s. s) result (alone statement words.now) }
+fn at_end(statement: Statement, words: &Words<'_>) -> Result<Statement, ReadError>
+    ensures answer { Answers (λ s. s) result (at_end statement words.now) }
+    ensures unknown { IfErr result (λ e. e ≡ ReadError.Unknown) }
 {
     if words.is_empty() {
         Ok(statement)
     } else {
-        Err(Refusal::Unknown)
+        Err(ReadError::Unknown)
     }
 }
 
-// The statement that tokens are, the `;` with them.
+// The statement that words are, the `;` with them.
 #[tactic(auto, unfolding(crate::specs::Form::form))]
-pub fn form(alloc: Global, tokens: &[Token<'_>]) -> Result<Statement, Refusal>
-    ensures { Answers (λ s. s) result (form (map word_of tokens.now)) }
+pub fn form(alloc: Global, mut words: Words<'_>) -> Result<Statement, ReadError>
+    ensures { Answers (λ s. s) result (form words.entry) }
 {
-    let mut words = Words::of(tokens);
     let statement = statement(alloc, &mut words)?;
     words.mark(b';')?;
-    alone(statement, &words)
+    at_end(statement, &words)
 }

@@ -4,15 +4,15 @@ ghost use Rattle.std.specs.Prelude.{◌≡◌};
 ghost use Rattle.dump_grammar.specs.Spelling.{word_of};
 ghost use Rattle.dump_read.specs.Answer.{Answers};
 ghost use Rattle.dump_read.specs.Takes.{one};
-ghost use Rattle.dump_read.specs.Form.{lead_word, object_word, lead_in, object_in};
+ghost use Rattle.dump_read.specs.Form.{verb_word, object_word, verb_in, object_in};
 
-use crate::refusal::Refusal;
+use crate::error::ReadError;
 use crate::words::{Words, is_key};
 use dump_lex::Token;
 
 // The first word.
 #[derive(Clone, Copy)]
-pub enum Lead {
+pub enum Verb {
     Bootstrap,
     Set,
     Create,
@@ -34,16 +34,16 @@ pub enum Object {
     Sequence,
 }
 
-fn lead_word(lead: Lead) -> &'static [u8]
-    ensures { result.now ≡ lead_word lead }
+fn verb_word(verb: Verb) -> &'static [u8]
+    ensures { result.now ≡ verb_word verb }
 {
-    match lead {
-        Lead::Bootstrap => b"BOOTSTRAP",
-        Lead::Set => b"SET",
-        Lead::Create => b"CREATE",
-        Lead::Alter => b"ALTER",
-        Lead::Connect => b"CONNECT",
-        Lead::Add => b"ADD",
+    match verb {
+        Verb::Bootstrap => b"BOOTSTRAP",
+        Verb::Set => b"SET",
+        Verb::Create => b"CREATE",
+        Verb::Alter => b"ALTER",
+        Verb::Connect => b"CONNECT",
+        Verb::Add => b"ADD",
     }
 }
 
@@ -62,21 +62,21 @@ fn object_word(object: Object) -> &'static [u8]
     }
 }
 
-#[tactic(auto, unfolding(crate::specs::Form::lead_in))]
-fn lead_in(token: &Token<'_>) -> Option<Lead>
-    ensures { result ≡ lead_in (word_of token.now) }
+#[tactic(auto, unfolding(crate::specs::Form::verb_in))]
+fn verb_in(token: &Token<'_>) -> Option<Verb>
+    ensures { result ≡ verb_in (word_of token.now) }
 {
     [
-        Lead::Bootstrap,
-        Lead::Set,
-        Lead::Create,
-        Lead::Alter,
-        Lead::Connect,
-        Lead::Add,
+        Verb::Bootstrap,
+        Verb::Set,
+        Verb::Create,
+        Verb::Alter,
+        Verb::Connect,
+        Verb::Add,
     ]
     .iter()
     .copied()
-    .find(|lead| is_key(token, lead_word(*lead)))
+    .find(|verb| is_key(token, verb_word(*verb)))
 }
 
 #[tactic(auto, unfolding(crate::specs::Form::object_in))]
@@ -100,18 +100,18 @@ fn object_in(token: &Token<'_>) -> Option<Object>
 
 impl<'a> Words<'a> {
     #[tactic(auto, unfolding(crate::specs::Takes::one))]
-    pub fn lead(&mut self) -> Result<Lead, Refusal>
-        ensures { Answers (λ x. (x, self.new)) result (one lead_in self.old) }
+    pub fn verb(&mut self) -> Result<Verb, ReadError>
+        ensures { Answers (λ x. (x, self.new)) result (one verb_in self.old) }
     {
         let token = self.next()?;
-        lead_in(&token).ok_or(Refusal::Unknown)
+        verb_in(&token).ok_or(ReadError::Unknown)
     }
 
     #[tactic(auto, unfolding(crate::specs::Takes::one))]
-    pub fn object(&mut self) -> Result<Object, Refusal>
+    pub fn object(&mut self) -> Result<Object, ReadError>
         ensures { Answers (λ x. (x, self.new)) result (one object_in self.old) }
     {
         let token = self.next()?;
-        object_in(&token).ok_or(Refusal::Unknown)
+        object_in(&token).ok_or(ReadError::Unknown)
     }
 }

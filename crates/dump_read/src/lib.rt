@@ -6,12 +6,12 @@
 
 mod columns;
 mod created;
+mod error;
 mod form;
 mod heads;
 mod laws;
 mod parts;
 mod reader;
-mod refusal;
 mod tables;
 mod values;
 mod words;

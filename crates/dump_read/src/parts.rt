@@ -4,7 +4,7 @@ ghost use Rattle.std.specs.Prelude.{◌≡◌};
 ghost use Rattle.dump_read.specs.Answer.{Answers};
 ghost use Rattle.dump_read.specs.Form.{keyed_name_at, owner_at, tablespace_at, qualified_at};
 
-use crate::refusal::Refusal;
+use crate::error::ReadError;
 use crate::words::Words;
 use fs_model::Text;
 use std::alloc::Global;
@@ -18,7 +18,7 @@ pub struct Qualified {
 
 impl<'a> Words<'a> {
     #[tactic(auto, unfolding(crate::specs::Form::qualified_at))]
-    pub fn qualified(&mut self, alloc: Global) -> Result<Qualified, Refusal>
+    pub fn qualified(&mut self, alloc: Global) -> Result<Qualified, ReadError>
         ensures { Answers (λ q. (q, self.new)) result (qualified_at self.old) }
     {
         let schema = self.name(alloc)?;
@@ -29,20 +29,20 @@ impl<'a> Words<'a> {
 
     // The name behind a keyword.
     #[tactic(auto, unfolding(crate::specs::Form::keyed_name_at))]
-    pub fn keyed_name(&mut self, alloc: Global, text: &[u8]) -> Result<Text, Refusal>
+    pub fn keyed_name(&mut self, alloc: Global, text: &[u8]) -> Result<Text, ReadError>
         ensures { Answers (λ n. (n, self.new)) result (keyed_name_at text.now self.old) }
     {
         self.key(text)?;
         self.name(alloc)
     }
 
-    pub fn owner(&mut self, alloc: Global) -> Result<Text, Refusal>
+    pub fn owner(&mut self, alloc: Global) -> Result<Text, ReadError>
         ensures { Answers (λ n. (n, self.new)) result (owner_at self.old) }
     {
         self.keyed_name(alloc, b"OWNER")
     }
 
-    pub fn tablespace(&mut self, alloc: Global) -> Result<Text, Refusal>
+    pub fn tablespace(&mut self, alloc: Global) -> Result<Text, ReadError>
         ensures { Answers (λ n. (n, self.new)) result (tablespace_at self.old) }
     {
         self.keyed_name(alloc, b"TABLESPACE")

@@ -5,7 +5,7 @@ ghost use Rattle.dump_grammar.specs.Spelling.{word_of};
 ghost use Rattle.dump_read.specs.Answer.{Answers};
 ghost use Rattle.dump_read.specs.Takes.{kind_in, type_in, align_in, flag_in, one};
 
-use crate::refusal::Refusal;
+use crate::error::ReadError;
 use crate::words::{Words, is_key, is_plain};
 use catalog::BaseType;
 use dump_grammar::{NextKind, align_word, flag_word, kind_word, type_word};
@@ -97,34 +97,34 @@ fn flag_in(token: &Token<'_>) -> Option<bool>
 
 impl<'a> Words<'a> {
     #[tactic(auto, unfolding(crate::specs::Takes::one))]
-    pub fn kind(&mut self) -> Result<NextKind, Refusal>
+    pub fn kind(&mut self) -> Result<NextKind, ReadError>
         ensures { Answers (λ x. (x, self.new)) result (one kind_in self.old) }
     {
         let token = self.next()?;
-        kind_in(&token).ok_or(Refusal::Unknown)
+        kind_in(&token).ok_or(ReadError::Unknown)
     }
 
     #[tactic(auto, unfolding(crate::specs::Takes::one))]
-    pub fn base_type(&mut self) -> Result<BaseType, Refusal>
+    pub fn base_type(&mut self) -> Result<BaseType, ReadError>
         ensures { Answers (λ x. (x, self.new)) result (one type_in self.old) }
     {
         let token = self.next()?;
-        type_in(&token).ok_or(Refusal::Unknown)
+        type_in(&token).ok_or(ReadError::Unknown)
     }
 
     #[tactic(auto, unfolding(crate::specs::Takes::one))]
-    pub fn align(&mut self) -> Result<Align, Refusal>
+    pub fn align(&mut self) -> Result<Align, ReadError>
         ensures { Answers (λ x. (x, self.new)) result (one align_in self.old) }
     {
         let token = self.next()?;
-        align_in(&token).ok_or(Refusal::Unknown)
+        align_in(&token).ok_or(ReadError::Unknown)
     }
 
     #[tactic(auto, unfolding(crate::specs::Takes::one))]
-    pub fn flag(&mut self) -> Result<bool, Refusal>
+    pub fn flag(&mut self) -> Result<bool, ReadError>
         ensures { Answers (λ x. (x, self.new)) result (one flag_in self.old) }
     {
         let token = self.next()?;
-        flag_in(&token).ok_or(Refusal::Unknown)
+        flag_in(&token).ok_or(ReadError::Unknown)
     }
 }

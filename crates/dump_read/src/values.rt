@@ -6,7 +6,7 @@ ghost use Rattle.dump_grammar.specs.Spelling.{is_name_kind, word_of};
 ghost use Rattle.dump_read.specs.Answer.{Answers};
 ghost use Rattle.dump_read.specs.Takes.{named, name_in, number_in, string_in, path_of, location_in, hex_in, fixed_length, length_in, key_of, column_number_in, one};
 
-use crate::refusal::Refusal;
+use crate::error::ReadError;
 use crate::words::{Words, is_key};
 use catalog::is_name;
 use dump_lex::{Token, TokenKind, bytes_of, name_of, number_of, string_of};
@@ -19,22 +19,22 @@ fn is_name_kind(kind: TokenKind) -> bool
     matches!(kind, TokenKind::Plain | TokenKind::Quoted)
 }
 
-fn named(bytes: Vec<u8>) -> Result<Text, Refusal>
+fn named(bytes: Vec<u8>) -> Result<Text, ReadError>
     ensures { Answers (λ n. n) result (named bytes.items) }
 {
     if is_name(&bytes) {
         Ok(Text::new(bytes))
     } else {
-        Err(Refusal::Unknown)
+        Err(ReadError::Unknown)
     }
 }
 
 #[tactic(auto, unfolding(crate::specs::Takes::name_in))]
-fn name_in(alloc: Global, token: &Token<'_>) -> Result<Text, Refusal>
+fn name_in(alloc: Global, token: &Token<'_>) -> Result<Text, ReadError>
     ensures { Answers (λ n. n) result (name_in (word_of token.now)) }
 {
     if !is_name_kind(token.kind) {
-        return Err(Refusal::Unknown);
+        return Err(ReadError::Unknown);
     }
     named(name_of(alloc, token.kind, token.text)?)
 }
@@ -50,46 +50,46 @@ fn number_in(token: &Token<'_>) -> Option<u32>
 }
 
 #[tactic(auto, unfolding(crate::specs::Takes::string_in))]
-fn string_in(alloc: Global, token: &Token<'_>) -> Result<Vec<u8>, Refusal>
+fn string_in(alloc: Global, token: &Token<'_>) -> Result<Vec<u8>, ReadError>
     ensures { Answers (λ v. v.items) result (string_in (word_of token.now)) }
 {
     match token.kind {
         TokenKind::Str => Ok(string_of(alloc, token.text)?),
-        _ => Err(Refusal::Unknown),
+        _ => Err(ReadError::Unknown),
     }
 }
 
 #[tactic(auto, unfolding(crate::specs::Takes::hex_in))]
-fn hex_in(alloc: Global, token: &Token<'_>) -> Result<Bytes, Refusal>
+fn hex_in(alloc: Global, token: &Token<'_>) -> Result<Bytes, ReadError>
     ensures { Answers (λ b. b) result (hex_in (word_of token.now)) }
 {
     match token.kind {
         TokenKind::Hex => Ok(Bytes::new(bytes_of(alloc, token.text)?)),
-        _ => Err(Refusal::Unknown),
+        _ => Err(ReadError::Unknown),
     }
 }
 
-fn parsed(alloc: Global, text: &str) -> Result<Path, Refusal>
+fn parsed(alloc: Global, text: &str) -> Result<Path, ReadError>
     ensures { Answers (λ p. p) result (path_in text.now) }
 {
     match Path::parse(alloc, text) {
         Ok(path) => Ok(path),
-        Err(PathError::Bad) => Err(Refusal::Unknown),
-        Err(PathError::OutOfMemory) => Err(Refusal::OutOfMemory),
+        Err(PathError::Bad) => Err(ReadError::Unknown),
+        Err(PathError::OutOfMemory) => Err(ReadError::OutOfMemory),
     }
 }
 
-fn path_of(alloc: Global, bytes: &[u8]) -> Result<Path, Refusal>
+fn path_of(alloc: Global, bytes: &[u8]) -> Result<Path, ReadError>
     ensures { Answers (λ p. p) result (path_of bytes.now) }
 {
     match str::from_utf8(bytes) {
         Ok(text) => parsed(alloc, text),
-        Err(_) => Err(Refusal::Unknown),
+        Err(_) => Err(ReadError::Unknown),
     }
 }
 
 #[tactic(auto, unfolding(crate::specs::Takes::location_in))]
-fn location_in(alloc: Global, token: &Token<'_>) -> Result<Path, Refusal>
+fn location_in(alloc: Global, token: &Token<'_>) -> Result<Path, ReadError>
     ensures { Answers (λ p. p) result (location_in (word_of token.now)) }
 {
     let text = string_in(alloc, token)?;
@@ -127,7 +127,7 @@ fn column_number_in(token: &Token<'_>) -> Option<u16>
 
 impl<'a> Words<'a> {
     #[tactic(auto, unfolding(crate::specs::Takes::one))]
-    pub fn name(&mut self, alloc: Global) -> Result<Text, Refusal>
+    pub fn name(&mut self, alloc: Global) -> Result<Text, ReadError>
         ensures { Answers (λ n. (n, self.new)) result (one name_in self.old) }
     {
         let token = self.next()?;
@@ -135,15 +135,15 @@ impl<'a> Words<'a> {
     }
 
     #[tactic(auto, unfolding(crate::specs::Takes::one))]
-    pub fn number(&mut self) -> Result<u32, Refusal>
+    pub fn number(&mut self) -> Result<u32, ReadError>
         ensures { Answers (λ n. (n, self.new)) result (one number_in self.old) }
     {
         let token = self.next()?;
-        number_in(&token).ok_or(Refusal::Unknown)
+        number_in(&token).ok_or(ReadError::Unknown)
     }
 
     #[tactic(auto, unfolding(crate::specs::Takes::one))]
-    pub fn string(&mut self, alloc: Global) -> Result<Text, Refusal>
+    pub fn string(&mut self, alloc: Global) -> Result<Text, ReadError>
         ensures { Answers (λ n. (n, self.new)) result (one string_in self.old) }
     {
         let token = self.next()?;
@@ -151,7 +151,7 @@ impl<'a> Words<'a> {
     }
 
     #[tactic(auto, unfolding(crate::specs::Takes::one))]
-    pub fn location(&mut self, alloc: Global) -> Result<Path, Refusal>
+    pub fn location(&mut self, alloc: Global) -> Result<Path, ReadError>
         ensures { Answers (λ p. (p, self.new)) result (one location_in self.old) }
     {
         let token = self.next()?;
@@ -159,7 +159,7 @@ impl<'a> Words<'a> {
     }
 
     #[tactic(auto, unfolding(crate::specs::Takes::one))]
-    pub fn hex(&mut self, alloc: Global) -> Result<Bytes, Refusal>
+    pub fn hex(&mut self, alloc: Global) -> Result<Bytes, ReadError>
         ensures { Answers (λ b. (b, self.new)) result (one hex_in self.old) }
     {
         let token = self.next()?;
@@ -167,18 +167,18 @@ impl<'a> Words<'a> {
     }
 
     #[tactic(auto, unfolding(crate::specs::Takes::one))]
-    pub fn dropped_length(&mut self) -> Result<i16, Refusal>
+    pub fn dropped_length(&mut self) -> Result<i16, ReadError>
         ensures { Answers (λ n. (n, self.new)) result (one length_in self.old) }
     {
         let token = self.next()?;
-        length_in(&token).ok_or(Refusal::Unknown)
+        length_in(&token).ok_or(ReadError::Unknown)
     }
 
     #[tactic(auto, unfolding(crate::specs::Takes::one))]
-    pub fn column_number(&mut self) -> Result<u16, Refusal>
+    pub fn column_number(&mut self) -> Result<u16, ReadError>
         ensures { Answers (λ n. (n, self.new)) result (one column_number_in self.old) }
     {
         let token = self.next()?;
-        column_number_in(&token).ok_or(Refusal::Unknown)
+        column_number_in(&token).ok_or(ReadError::Unknown)
     }
 }

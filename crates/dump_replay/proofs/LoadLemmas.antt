@@ -5,7 +5,7 @@ use Rattle.dump_grammar.specs.declared.error.TextError.{TextError}
 use Rattle.dump_grammar.specs.declared.statement.Statement.{Statement}
 use Rattle.dump_grammar.specs.declared.statement.Statement.TheVariants.{Bootstrap, SetNext, CreateRole, CreateTablespace, CreateDatabase, AlterDatabase, Connect, CreateSchema, CreateEnum, AddLabel, CreateTable, CreateIndex, CreateSequence}
 use Rattle.dump_rules.specs.Rules.{opened}
-use Rattle.dump_read.specs.Reading.{Said, statement_at}
+use Rattle.dump_read.specs.Reading.{PlacedStatement, statement_at}
 use Rattle.dump_replay.specs.Replay.{start_of, Outcome, outcome_at, settled, settled_outcome, loaded, load_on, load_of}
 use Rattle.dump_replay.specs.Law.{Stops, EndsAs, Loads, LoadedIsSequence, SequenceIsLoaded}
 use Rattle.dump_replay.proofs.SequenceLemmas.{replay_is_sequence, allowed_is_replayed}
@@ -16,10 +16,10 @@ settled_has None c d e = (refl, let h : c ≡ d = cc in sym h)
 settled_has (Some x) c d e = absurd cc
 
 -- the statement is BOOTSTRAP, and what stands behind it is allowed
-abbrev Begun : List ℕ → Said → Statement → Cluster → Type 0
+abbrev Begun : List ℕ → PlacedStatement → Statement → Cluster → Type 0
 Begun text x s c = statement_at (start_of text) ≡ Ok (Some x) → x.statement ≡ s → Loads text c
 
-begun : (text : List ℕ) (c : Cluster) (x : Said) (name : List ℕ) (o : Outcome) → statement_at (start_of text) ≡ Ok (Some x) → x.statement ≡ Bootstrap name → (o.fault ≡ None) × (c ≡ o.state.catalog) → EndsAs (opened (started name)) x.after o → Loads text c
+begun : (text : List ℕ) (c : Cluster) (x : PlacedStatement) (name : List ℕ) (o : Outcome) → statement_at (start_of text) ≡ Ok (Some x) → x.statement ≡ Bootstrap name → (o.fault ≡ None) × (c ≡ o.state.catalog) → EndsAs (opened (started name)) x.after o → Loads text c
 begun text c x name o read is h e =
     record {
       name = name;
@@ -34,7 +34,7 @@ begun text c x name o read is h e =
       leads = h.1;
     }
 
-loaded_has : (text : List ℕ) (c : Cluster) (x : Said) (s : Statement) → loaded x s ≡ Ok c → Begun text x s c
+loaded_has : (text : List ℕ) (c : Cluster) (x : PlacedStatement) (s : Statement) → loaded x s ≡ Ok c → Begun text x s c
 loaded_has text c x (Bootstrap name) e read is =
     let o : Outcome = outcome_at (opened (started name)) x.after in
     begun text c x name o read is (settled_has o.fault o.state.catalog c e) (replay_is_sequence (opened (started name)) x.after)
@@ -51,7 +51,7 @@ loaded_has text c x (CreateTable schema name owner tablespace columns) e read is
 loaded_has text c x (CreateIndex name schema table tablespace keys) e read is = absurd cc
 loaded_has text c x (CreateSequence schema name owner) e read is = absurd cc
 
-read_has : (text : List ℕ) (c : Cluster) (r : Result (Option Said) TextError) → statement_at (start_of text) ≡ r → load_on r ≡ Ok c → Loads text c
+read_has : (text : List ℕ) (c : Cluster) (r : Result (Option PlacedStatement) TextError) → statement_at (start_of text) ≡ r → load_on r ≡ Ok c → Loads text c
 read_has text c (Err f) is e = absurd cc
 read_has text c (Ok None) is e = absurd cc
 read_has text c (Ok (Some x)) is e = loaded_has text c x x.statement e is refl

@@ -6,16 +6,16 @@ use Rattle.dump_grammar.specs.declared.error.TextError.{TextError}
 use Rattle.dump_grammar.specs.declared.error.TextCause.{TextCause}
 use Rattle.dump_grammar.specs.declared.statement.Statement.TheVariants.{Bootstrap}
 use Rattle.dump_rules.specs.Rules.{State, opened, step, Replays}
-use Rattle.dump_read.specs.Reading.{Said, statement_at, statement_in, Stand}
+use Rattle.dump_read.specs.Reading.{PlacedStatement, statement_at, statement_in, Stand}
 use Rattle.dump_replay.specs.Replay.{start_of, Outcome, outcome_at, load_of}
 
 -- the statement at a place is refused
 pub record RefusedAt (s : State) (p : Place) (e : TextError) : Type 0 where
-  pub said : Said
+  pub placed : PlacedStatement
   pub cause : TextCause
-  pub read : statement_at p ≡ Ok (Some said)
-  pub refused : step s said.statement ≡ Err cause
-  pub is : e ≡ record { line = said.line; cause = cause }
+  pub read : statement_at p ≡ Ok (Some placed)
+  pub refused : step s placed.statement ≡ Err cause
+  pub is : e ≡ record { line = placed.line; cause = cause }
 
 -- why a replay stops at a place: the text ends there, it can't be read there, or the statement there is refused
 abbrev pub Stops : Option TextError → State → Place → Type 0
@@ -25,7 +25,7 @@ Stops (Some e) s p = (statement_at p ≡ Err e) ⊎ RefusedAt s p e
 -- A replay ends with no fault exactly where each statement of the text is allowed. It ends with a fault at the first
 -- statement that can't be read or is refused, in the state that the statements before it lead to.
 pub record EndsAs (s : State) (p : Place) (o : Outcome) : Type 0 where
-  pub before : List Said
+  pub before : List PlacedStatement
   pub place : Place
   pub stand : Stand p before place
   pub replays : Replays s (map statement_in before) o.state
@@ -33,7 +33,7 @@ pub record EndsAs (s : State) (p : Place) (o : Outcome) : Type 0 where
 
 -- a catalog is that of the state that some first statements behind a place lead to, up to another place
 pub record AfterSome (s : State) (p : Place) (c : Cluster) : Type 0 where
-  pub before : List Said
+  pub before : List PlacedStatement
   pub place : Place
   pub state : State
   pub stand : Stand p before place
@@ -47,14 +47,14 @@ ReplayIsSequence = (s : State) (p : Place) → EndsAs s p (outcome_at s p)
 
 -- statements that are allowed, up to the end of the text, are replayed to where they lead; no others stand there
 abbrev pub AllowedIsReplayed : Type 0
-AllowedIsReplayed = (s t : State) (p q : Place) (xs : List Said) → Stand p xs q → Replays s (map statement_in xs) t → statement_at q ≡ Ok None
+AllowedIsReplayed = (s t : State) (p q : Place) (xs : List PlacedStatement) → Stand p xs q → Replays s (map statement_in xs) t → statement_at q ≡ Ok None
     → outcome_at s p ≡ record { state = t; fault = None }
 
 -- A text that is loaded begins with BOOTSTRAP, and each statement behind it is allowed.
 pub record Loads (text : List ℕ) (c : Cluster) : Type 0 where
   pub name : List ℕ
-  pub first : Said
-  pub more : List Said
+  pub first : PlacedStatement
+  pub more : List PlacedStatement
   pub end : Place
   pub state : State
   pub stand : Stand (start_of text) (first ∷ more) end

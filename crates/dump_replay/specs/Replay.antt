@@ -8,7 +8,7 @@ use Rattle.dump_grammar.specs.declared.error.TextCause.TheVariants.{UnknownState
 use Rattle.dump_grammar.specs.declared.statement.Statement.{Statement}
 use Rattle.dump_grammar.specs.declared.statement.Statement.TheVariants.{Bootstrap}
 use Rattle.dump_rules.specs.Rules.{State, opened, step}
-use Rattle.dump_read.specs.Reading.{Said, statement_at}
+use Rattle.dump_read.specs.Reading.{PlacedStatement, statement_at}
 
 abbrev pub start_of : List ℕ → Place
 start_of text = record { source = text; start = 0 }
@@ -21,23 +21,23 @@ pub record Outcome : Type 0 where
   pub fault : Option TextError
 
 -- a statement that is refused makes the error of its line
-abbrev pub stepped : (State → Place → Outcome) → State → Said → Result State TextCause → Outcome
+abbrev pub stepped : (State → Place → Outcome) → State → PlacedStatement → Result State TextCause → Outcome
 stepped go s x (Ok m) = go m x.after
 stepped go s x (Err cause) = record { state = s; fault = Some (record { line = x.line; cause = cause }) }
 
-abbrev pub gone_on : (State → Place → Outcome) → State → Result (Option Said) TextError → Outcome
-gone_on go s (Err e) = record { state = s; fault = Some e }
-gone_on go s (Ok None) = record { state = s; fault = None }
-gone_on go s (Ok (Some x)) = stepped go s x (step s x.statement)
+abbrev pub resumed : (State → Place → Outcome) → State → Result (Option PlacedStatement) TextError → Outcome
+resumed go s (Err e) = record { state = s; fault = Some e }
+resumed go s (Ok None) = record { state = s; fault = None }
+resumed go s (Ok (Some x)) = stepped go s x (step s x.statement)
 
 -- the statements behind a place in turn, at most so many
-unfoldable pub goes : ℕ → State → Place → Outcome
-goes zero s p = record { state = s; fault = None }
-goes (suc n) s p = gone_on (goes n) s (statement_at p)
+unfoldable pub run_from : ℕ → State → Place → Outcome
+run_from zero s p = record { state = s; fault = None }
+run_from (suc n) s p = resumed (run_from n) s (statement_at p)
 
 -- the statements behind a place in turn: each has a byte at least
 abbrev pub outcome_at : State → Place → Outcome
-outcome_at s p = goes (suc (length (rest_of p))) s p
+outcome_at s p = run_from (suc (length (rest_of p))) s p
 
 -- where the replay of a text over a catalog ends
 abbrev pub outcome_of : Cluster → List ℕ → Outcome
@@ -59,11 +59,11 @@ abbrev pub settled_outcome : Outcome → Result Cluster TextError
 settled_outcome o = settled o.fault o.state.catalog
 
 -- the first statement names the role that made the cluster
-abbrev pub loaded : Said → Statement → Result Cluster TextError
+abbrev pub loaded : PlacedStatement → Statement → Result Cluster TextError
 loaded x (Bootstrap name) = settled_outcome (outcome_at (opened (started name)) x.after)
 loaded x _ = Err (record { line = x.line; cause = UnknownStatement })
 
-abbrev pub load_on : Result (Option Said) TextError → Result Cluster TextError
+abbrev pub load_on : Result (Option PlacedStatement) TextError → Result Cluster TextError
 load_on (Err e) = Err e
 load_on (Ok None) = Err (record { line = 1; cause = UnknownStatement })
 load_on (Ok (Some x)) = loaded x x.statement

@@ -4,7 +4,7 @@ use Rattle.std.specs.Prelude.{option_map}
 use Rattle.std.specs.List.{flat_map}
 use Rattle.catalog.specs.Cluster.{Cluster, started}
 use Rattle.dump_lex.specs.declared.token.LexError.{LexError}
-use Rattle.dump_lex.specs.Place.{Place, Spot}
+use Rattle.dump_lex.specs.Place.{Place, PlacedToken}
 use Rattle.dump_lex.specs.Reading.{Reads, why}
 use Rattle.dump_lex.proofs.Parsing.{parsed}
 use Rattle.dump_grammar.specs.declared.error.TextCause.{TextCause}
@@ -18,7 +18,7 @@ use Rattle.dump_spelling.proofs.Lines.{lines_are_spelled}
 use Rattle.dump_laws.specs.Replayed.{at}
 use Rattle.dump_laws.proofs.Cluster.{step_bootstrap, statements_replay}
 use Rattle.dump_laws.proofs.WritableObjects.{statements_writable}
-use Rattle.dump_read.specs.Reading.{Said, statement_at, statement_in, Stand}
+use Rattle.dump_read.specs.Reading.{PlacedStatement, statement_at, statement_in, Stand}
 use Rattle.dump_read.specs.Laws.{SpellAll, AreStatements}
 use Rattle.dump_read.proofs.TextStands.{spelled_text_stands}
 use Rattle.dump_replay.specs.Replay.{start_of, Outcome}
@@ -35,16 +35,16 @@ spell_all : (ss : List Statement) → AreSpelled ss → SpellAll (flat_map words
 spell_all [] h = refl
 spell_all (s ∷ ss) h = (words_of s, flat_map words_of ss, refl, h.0, spell_all ss h.1)
 
-no_error : (p : Place) (tokens : List Spot) (e : Option LexError) → Reads p tokens e → option_map why e ≡ None → Reads p tokens None
+no_error : (p : Place) (tokens : List PlacedToken) (e : Option LexError) → Reads p tokens e → option_map why e ≡ None → Reads p tokens None
 no_error p tokens None reads is = reads
 no_error p tokens (Some e) reads is = absurd cc
 
 -- the statements that stand in the text of statements that can be written
 record Standing (p : Place) (ss : List Statement) : Type 0 where
-  said : List Said
+  placed : List PlacedStatement
   end : Place
-  stand : Stand p said end
-  are : map statement_in said ≡ ss
+  stand : Stand p placed end
+  are : map statement_in placed ≡ ss
   ends : statement_at end ≡ Ok None
 
 lines_stand : (ss : List Statement) → AreWritable ss → Standing (start_of (lines_of ss)) ss
@@ -55,7 +55,7 @@ lines_stand ss h =
     let reads = no_error p r.0 r.1 r.2 r.4 in
     let spell = subst (λ (ws : List Word). SpellAll ws ss) (sym r.3) (spell_all ss spelled.1) in
     let s = spelled_text_stands p r.0 ss reads spell (are_statements ss h) in
-    record { said = s.0; end = s.1; stand = s.2; are = s.3; ends = s.4 }
+    record { placed = s.0; end = s.1; stand = s.2; are = s.3; ends = s.4 }
 
 pub canonical_leads : CanonicalLeads
 canonical_leads c v w =
@@ -63,13 +63,13 @@ canonical_leads c v w =
     let m = statements_replay c v in
     let begins = opened (started c.bootstrap) in
     let replays = subst (λ (ss : List Statement). Replays begins ss (at c m.0)) (sym s.are) m.1 in
-    let outcome = allowed_is_replayed begins (at c m.0) (start_of (canonical c)) s.end s.said s.stand replays s.ends in
+    let outcome = allowed_is_replayed begins (at c m.0) (start_of (canonical c)) s.end s.placed s.stand replays s.ends in
     (ap (λ (o : Outcome). o.fault) outcome, ap (λ (o : Outcome). o.state.catalog) outcome)
 
 same_state : (s t : State) → ◌≡◌ {A = Result State TextCause} (Ok s) (Ok t) → s ≡ t
 same_state s t e = cc
 
-loads : (c : Cluster) (m : Option ℕ) (said : List Said) (end : Place) → Stand (start_of (canonical c)) said end → map statement_in said ≡ statements_of c → statement_at end ≡ Ok None → Replays (opened (started c.bootstrap)) (statements_of c) (at c m) → Loads (canonical c) c
+loads : (c : Cluster) (m : Option ℕ) (placed : List PlacedStatement) (end : Place) → Stand (start_of (canonical c)) placed end → map statement_in placed ≡ statements_of c → statement_at end ≡ Ok None → Replays (opened (started c.bootstrap)) (statements_of c) (at c m) → Loads (canonical c) c
 loads c m [] end stand are ends replays = absurd cc
 loads c m (x ∷ xs) end stand are ends replays =
     let begins : x.statement ≡ Bootstrap c.bootstrap = cc in
@@ -93,4 +93,4 @@ pub canonical_is_loaded : CanonicalIsLoaded
 canonical_is_loaded c v w =
     let s = lines_stand (statements_of c) (statements_writable c v w) in
     let m = statements_replay c v in
-    sequence_is_loaded (canonical c) c (loads c m.0 s.said s.end s.stand s.are s.ends m.1)
+    sequence_is_loaded (canonical c) c (loads c m.0 s.placed s.end s.stand s.are s.ends m.1)

@@ -1,7 +1,7 @@
 use Rattle.std.proofs.Common.{Some, sym, ap, ◌∙◌}
 use Rattle.dump_grammar.specs.declared.error.TextError.{TextError}
-use Rattle.dump_read.specs.Reading.{Said}
-use Rattle.dump_read.specs.Saying.{said}
+use Rattle.dump_read.specs.Reading.{PlacedStatement}
+use Rattle.dump_read.specs.Placed.{placed}
 use Rattle.dump_rules.specs.Rules.{State}
 use Rattle.dump_rules.specs.Causes.{state_of}
 use Rattle.dump_replay.proofs.ReadingLemmas.{read_cause}
@@ -30,7 +30,7 @@ returns-in-Err-apply-clause-exact c h =
     let i = c.statements.invariant in
     let s : State = state_of c.statements.catalog c.statements.session in
     let e = rw c.in-Ok-Some.field-0-is at c.in-Ok-Some.ensures.read in
-    let x : Said = said c.in-Ok-Some.located c.read_located.new.lexer in
+    let x : PlacedStatement = placed c.in-Ok-Some.located c.read_located.new.lexer in
     let told = c.error_at.ensures in
     let bad = goes_bad i.fuel s c.statements.lexer x c.in-Err-apply.cause _ _ i.enough e (c.in-Err-apply.ensures.refused (λ m. h (told.cause ∙ m))) c.in-Err-apply.ensures.unchanged.0 i.so_far in
     (bad.0 ∙ ap (λ (f : TextError). Some f) (sym (told.exact h)), bad.1)
@@ -42,7 +42,7 @@ statements-preserved c =
     let t : State = state_of c.apply.new.catalog c.apply.new.session in
     let e = rw c.in-Ok-Some.field-0-is at c.in-Ok-Some.ensures.read in
     let on = rw c.in-Ok-Some.field-0-is at c.in-Ok-Some.ensures.onward in
-    let x : Said = said c.in-Ok-Some.located c.read_located.new.lexer in
+    let x : PlacedStatement = placed c.in-Ok-Some.located c.read_located.new.lexer in
     let made = c.in-Ok.ensures.ok in
     let more = goes_more i.fuel s t c.statements.lexer x _ i.enough e made on i.so_far in
     record {
