@@ -1,6 +1,6 @@
 -- A catalog with one of its databases changed.
 use Rattle.std.proofs.Common.{◌≡◌, ℕ, Bool, true, false, cond, List, [], ◌∷◌, get_or, set, Option, Some, None, Result, Ok, Err, sym, ap, subst, ◌∙◌}
-use Rattle.std.specs.Prelude.{nat_eq, bytes_eq}
+use Rattle.std.specs.Prelude.{is_ok, IsOk, nat_eq, bytes_eq}
 use Rattle.std.specs.List.{find, position}
 use Rattle.catalog.specs.declared.error.CatalogError.{CatalogError}
 use Rattle.catalog.specs.declared.error.CatalogError.TheVariants.{NoSuch}
@@ -93,6 +93,11 @@ lent_made c oid i refusal change lent left at free changed =
 pub lent_refused : (c : Cluster) (oid i : ℕ) (refusal : DatabaseObjects → Option CatalogError) (change : DatabaseObjects → DatabaseObjects) (lent : DatabaseObjects) (e : CatalogError) → Lent c oid i lent → refusal lent ≡ Some e → with_change c oid refusal change ≡ Err e
 lent_refused c oid i refusal change lent e at refused =
     change_refused c oid i refusal change lent e at.place (subst (λ (d : DatabaseObjects). refusal d ≡ Some e) at.entry refused)
+
+-- a change that isn't refused is made
+pub lent_is_made : (c : Cluster) (oid i : ℕ) (refusal : DatabaseObjects → Option CatalogError) (change : DatabaseObjects → DatabaseObjects) (lent : DatabaseObjects) → Lent c oid i lent → refusal lent ≡ None → IsOk (with_change c oid refusal change)
+lent_is_made c oid i refusal change lent at free =
+    ap is_ok (change_made c oid i refusal change lent at.place (subst (λ (d : DatabaseObjects). refusal d ≡ None) at.entry free))
 
 pub lent_keeps : (c : Cluster) (oid i : ℕ) (change : DatabaseObjects → DatabaseObjects) (lent left : DatabaseObjects) → IsValid c → Lent c oid i lent → ((x : DatabaseObjects) → head_of (change x) ≡ head_of x) → left ≡ change lent
     → (IsValidDatabase c.roles c.tablespaces lent → IsValidDatabase c.roles c.tablespaces (change lent)) → IsValid (record c { databases = set c.databases i left })

@@ -1,13 +1,16 @@
 -- What it says that an object isn't refused.
 use Rattle.std.proofs.Common.{◌≡◌, ℕ, Bool, true, false, List, [], ◌∷◌, Some, None, refl, ap, ◌∙◌, arith, rules}
-use Rattle.std.specs.Prelude.{not, ◌&&◌, ◌||◌, nat_lt, nat_le, nat_eq, map}
+use Rattle.std.specs.Prelude.{◌≢◌, Option, not, ◌&&◌, ◌||◌, nat_lt, nat_le, nat_eq, map}
 use Rattle.std.specs.List.{list_any, list_all}
 use Rattle.std.proofs.lemmas.Bool.Decides.{nat_tests}
-use Rattle.catalog.specs.declared.error.CatalogError.TheVariants.{NoSuch}
+use Rattle.catalog.specs.declared.error.CatalogError.TheVariants.{NoSuch, OutOfMemory}
+use Rattle.catalog.specs.declared.enums.Label.{Label}
+use Rattle.catalog.specs.declared.enums.EnumType.{EnumType}
 use Rattle.catalog.specs.Lists.{are_distinct, clash}
+use Rattle.catalog.specs.Cluster.{DatabaseObjects}
 use Rattle.catalog.specs.Spaces.{FilePlace, same_place, place_in}
 use Rattle.catalog.specs.Forms.{is_32_bits}
-use Rattle.catalog.specs.Refusals.{first_cause, is_system_number}
+use Rattle.catalog.specs.Refusals.{first_cause, label_refusal_in, is_system_number}
 use Rattle.catalog.specs.Valid.{is_user_number, is_user_place}
 use Rattle.catalog.proofs.ListLemmas.{and_both, and_left, and_right, or_left, or_right, or_both, not_false}
 use Rattle.catalog.proofs.SpaceLemmas.{any_map}
@@ -31,6 +34,20 @@ no_cause false false false false false h = record { stands = refl; few = refl; o
 pub absent : (b c d e : Bool) → first_cause true b c d e ≡ Some NoSuch
 unfolding first_cause
 absent b c d e = refl
+
+-- want of memory refuses no object
+pub never_memory : (a b c d e : Bool) → first_cause a b c d e ≢ Some OutOfMemory
+unfolding first_cause
+never_memory true b c d e h = cc
+never_memory false true c d e h = cc
+never_memory false false true d e h = cc
+never_memory false false false true e h = cc
+never_memory false false false false true h = cc
+never_memory false false false false false h = cc
+
+pub label_never_memory : (d : DatabaseObjects) (label : Label) (kind : Option EnumType) → label_refusal_in d label kind ≢ Some OutOfMemory
+label_never_memory d label None h = cc
+label_never_memory d label (Some kind) h = never_memory _ _ _ _ _ h
 
 pub same_causes : {a a' b b' c c' d d' e e' : Bool} → a ≡ a' → b ≡ b' → c ≡ c' → d ≡ d' → e ≡ e' → first_cause a b c d e ≡ first_cause a' b' c' d' e'
 same_causes p q r s t = λ i. first_cause (p i) (q i) (r i) (s i) (t i)

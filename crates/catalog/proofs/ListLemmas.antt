@@ -1,6 +1,6 @@
 -- Lists whose entries differ, tests over lists that grow, and lists with one entry changed.
 use Rattle.std.proofs.Common.{◌≡◌, ℕ, suc, ◌+◌, ◌<◌, length, get_or, set, arith, Bool, true, false, cond, List, [], ◌∷◌, ◌++◌, map, refl, sym, ap, subst, ◌∙◌, append_assoc, Some, None}
-use Rattle.std.specs.Prelude.{not, ◌&&◌, ◌||◌, nat_eq, bytes_eq}
+use Rattle.std.specs.Prelude.{IsSome, not, ◌&&◌, ◌||◌, nat_eq, bytes_eq}
 use Rattle.std.specs.List.{list_any, list_all, find, position, position_from, flat_map}
 use Rattle.std.proofs.lemmas.List.{append-nil, map-append}
 use Rattle.std.proofs.lemmas.List.Folds.{list_any-append, list_all-append}
@@ -247,6 +247,17 @@ none_from passes (x ∷ xs) n h = more (passes x) h (none_from passes xs (n + 1)
 
 pub none_found : {A : Type 0} (passes : A → Bool) (xs : List A) → position passes xs ≡ None → find passes xs ≡ None
 none_found passes xs h = none_from passes xs 0 (sym (position_from-zero passes xs) ∙ h)
+
+some_from : {A : Type 0} (passes : A → Bool) (xs : List A) (n i : ℕ) → position_from passes n xs ≡ Some i → IsSome (find passes xs)
+some_from passes [] n i h = cc
+some_from {A = A} passes (x ∷ xs) n i h = more (passes x) h (some_from passes xs (n + 1) i)
+  where
+    more : (b : Bool) → cond b (Some n) (position_from passes (n + 1) xs) ≡ Some i → (position_from passes (n + 1) xs ≡ Some i → IsSome (find passes xs)) → IsSome (cond b (Some x) (find passes xs))
+    more true k rest = refl
+    more false k rest = rest k
+
+pub some_found : {A : Type 0} (passes : A → Bool) (xs : List A) (i : ℕ) → position passes xs ≡ Some i → IsSome (find passes xs)
+some_found passes xs i h = some_from passes xs 0 i (sym (position_from-zero passes xs) ∙ h)
 
 none_at : {A : Type 0} (passes : A → Bool) (xs : List A) (n : ℕ) → list_any passes xs ≡ false → position_from passes n xs ≡ None
 none_at passes [] n h = refl

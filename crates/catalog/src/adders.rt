@@ -1,5 +1,5 @@
-// What may be added to a catalog. A refusal changes nothing.
-ghost use Rattle.std.specs.Prelude.{◌≡◌, ◌≢◌, ◌∷◌, [], true, Ok, Err, Some, OnOk, OnErr, IfOk, IfErr, None};
+// What may be added to a catalog. A refusal changes nothing. `OutOfMemory` comes only where the object would have been added.
+ghost use Rattle.std.specs.Prelude.{◌≡◌, ◌≢◌, ◌∷◌, [], true, Ok, Err, Some, OnOk, OnErr, IfOk, IfErr, IsOk, None};
 ghost use Rattle.std.specs.List.{find, position};
 ghost use Rattle.catalog.specs.declared.error.CatalogError.TheVariants.{NoSuch};
 ghost use Rattle.catalog.specs.Cluster.{fresh_database};
@@ -41,6 +41,7 @@ impl Catalog {
         requires { is_name role.name ≡ true }
         ensures ok { OnOk result (with_role self.old role ≡ Ok self.new) }
         ensures refused { IfErr result (λ e. e ≢ CatalogError.OutOfMemory → with_role self.old role ≡ Err e) }
+        ensures lacking { IfErr result (λ e. e ≡ CatalogError.OutOfMemory → IsOk (with_role self.old role)) }
         ensures unchanged { OnErr result (self.new ≡ self.old) }
     {
         fits(role.oid);
@@ -56,6 +57,7 @@ impl Catalog {
         requires { is_name tablespace.name ≡ true }
         ensures ok { OnOk result (with_tablespace self.old tablespace ≡ Ok self.new) }
         ensures refused { IfErr result (λ e. e ≢ CatalogError.OutOfMemory → with_tablespace self.old tablespace ≡ Err e) }
+        ensures lacking { IfErr result (λ e. e ≡ CatalogError.OutOfMemory → IsOk (with_tablespace self.old tablespace)) }
         ensures unchanged { OnErr result (self.new ≡ self.old) }
     {
         fits(tablespace.oid);
@@ -73,6 +75,7 @@ impl Catalog {
         requires fresh { database ≡ fresh_database database.oid database.name database.owner database.connections }
         ensures ok { OnOk result (with_database self.old database ≡ Ok self.new) }
         ensures refused { IfErr result (λ e. e ≢ CatalogError.OutOfMemory → with_database self.old database ≡ Err e) }
+        ensures lacking { IfErr result (λ e. e ≡ CatalogError.OutOfMemory → IsOk (with_database self.old database)) }
         ensures unchanged { OnErr result (self.new ≡ self.old) }
     {
         fits(database.oid);
@@ -100,6 +103,7 @@ impl Catalog {
         requires { is_name schema.name ≡ true }
         ensures ok { OnOk result (with_schema self.old database schema ≡ Ok self.new) }
         ensures refused { IfErr result (λ e. e ≢ CatalogError.OutOfMemory → with_schema self.old database schema ≡ Err e) }
+        ensures lacking { IfErr result (λ e. e ≡ CatalogError.OutOfMemory → IsOk (with_schema self.old database schema)) }
         ensures unchanged { OnErr result (self.new ≡ self.old) }
     {
         let place = place_of(&self.databases, database)?;
@@ -113,6 +117,7 @@ impl Catalog {
         requires { is_name kind.name ≡ true }
         ensures ok { OnOk result (with_enum self.old database kind ≡ Ok self.new) }
         ensures refused { IfErr result (λ e. e ≢ CatalogError.OutOfMemory → with_enum self.old database kind ≡ Err e) }
+        ensures lacking { IfErr result (λ e. e ≡ CatalogError.OutOfMemory → IsOk (with_enum self.old database kind)) }
         ensures unchanged { OnErr result (self.new ≡ self.old) }
     {
         let place = place_of(&self.databases, database)?;
@@ -125,6 +130,7 @@ impl Catalog {
     pub fn add_label(&mut self, database: u32, kind: u32, label: Label) -> Result<(), CatalogError>
         ensures ok { OnOk result (with_label self.old database kind label ≡ Ok self.new) }
         ensures refused { IfErr result (λ e. e ≢ CatalogError.OutOfMemory → with_label self.old database kind label ≡ Err e) }
+        ensures lacking { IfErr result (λ e. e ≡ CatalogError.OutOfMemory → IsOk (with_label self.old database kind label)) }
         ensures unchanged { OnErr result (self.new ≡ self.old) }
     {
         let place = place_of(&self.databases, database)?;
@@ -139,6 +145,7 @@ impl Catalog {
         requires { table_form table ≡ true }
         ensures ok { OnOk result (with_table self.old database table ≡ Ok self.new) }
         ensures refused { IfErr result (λ e. e ≢ CatalogError.OutOfMemory → with_table self.old database table ≡ Err e) }
+        ensures lacking { IfErr result (λ e. e ≡ CatalogError.OutOfMemory → IsOk (with_table self.old database table)) }
         ensures unchanged { OnErr result (self.new ≡ self.old) }
     {
         let place = place_of(&self.databases, database)?;
@@ -152,6 +159,7 @@ impl Catalog {
         requires { index_form index ≡ true }
         ensures ok { OnOk result (with_index self.old database index ≡ Ok self.new) }
         ensures refused { IfErr result (λ e. e ≢ CatalogError.OutOfMemory → with_index self.old database index ≡ Err e) }
+        ensures lacking { IfErr result (λ e. e ≡ CatalogError.OutOfMemory → IsOk (with_index self.old database index)) }
         ensures unchanged { OnErr result (self.new ≡ self.old) }
     {
         let place = place_of(&self.databases, database)?;
@@ -165,6 +173,7 @@ impl Catalog {
         requires { is_name sequence.name ≡ true }
         ensures ok { OnOk result (with_sequence self.old database sequence ≡ Ok self.new) }
         ensures refused { IfErr result (λ e. e ≢ CatalogError.OutOfMemory → with_sequence self.old database sequence ≡ Err e) }
+        ensures lacking { IfErr result (λ e. e ≡ CatalogError.OutOfMemory → IsOk (with_sequence self.old database sequence)) }
         ensures unchanged { OnErr result (self.new ≡ self.old) }
     {
         let place = place_of(&self.databases, database)?;

@@ -1,4 +1,4 @@
-// What joins a database, behind what it holds.
+// What joins a database, behind what it holds. `OutOfMemory` comes only where the object would have joined.
 ghost use Rattle.std.specs.Prelude.{◌≡◌, ◌≢◌, true, false, None, Some, OnOk, OnErr, IfErr};
 ghost use Rattle.std.specs.List.{list_all};
 ghost use Rattle.catalog.specs.Spaces.{SchemaName, table_oids, table_files};
@@ -65,6 +65,7 @@ impl Database {
     pub(crate) fn add_schema(&mut self, roles: &[Role], schema: Schema) -> Result<(), CatalogError>
         ensures ok { OnOk result ((schema_refusal roles.now self.old schema ≡ None) × (self.new ≡ add_schema schema self.old)) }
         ensures refused { IfErr result (λ e. e ≢ CatalogError.OutOfMemory → schema_refusal roles.now self.old schema ≡ Some e) }
+        ensures lacking { IfErr result (λ e. e ≡ CatalogError.OutOfMemory → schema_refusal roles.now self.old schema ≡ None) }
         ensures unchanged { OnErr result (self.new ≡ self.old) }
     {
         if let Some(cause) = self.refusal_of_schema(roles, &schema) {
@@ -78,6 +79,7 @@ impl Database {
         ensures ok { OnOk result ((enum_refusal roles.now self.old kind ≡ None) × (self.new ≡ add_enum kind self.old)) }
         ensures fits { OnOk result ((is_32_bits kind.oid ≡ true) × (list_all (λ l. is_32_bits l.oid) kind.labels ≡ true)) }
         ensures refused { IfErr result (λ e. e ≢ CatalogError.OutOfMemory → enum_refusal roles.now self.old kind ≡ Some e) }
+        ensures lacking { IfErr result (λ e. e ≡ CatalogError.OutOfMemory → enum_refusal roles.now self.old kind ≡ None) }
         ensures unchanged { OnErr result (self.new ≡ self.old) }
     {
         fits(kind.oid);
@@ -93,6 +95,7 @@ impl Database {
         ensures ok { OnOk result ((label_refusal self.old kind label ≡ None) × (self.new ≡ add_label kind label self.old)) }
         ensures fits { OnOk result (is_32_bits label.oid ≡ true) }
         ensures refused { IfErr result (λ e. e ≢ CatalogError.OutOfMemory → label_refusal self.old kind label ≡ Some e) }
+        ensures lacking { IfErr result (λ e. e ≡ CatalogError.OutOfMemory → label_refusal self.old kind label ≡ None) }
         ensures unchanged { OnErr result (self.new ≡ self.old) }
     {
         fits(label.oid);
@@ -113,6 +116,7 @@ impl Database {
         ensures oids_fit { OnOk result ((list_all is_32_bits (table_oids table) ≡ true) × (is_32_bits table.row_type ≡ true)) }
         ensures files_fit { OnOk result (list_all is_32_bits (table_files table) ≡ true) }
         ensures refused { IfErr result (λ e. e ≢ CatalogError.OutOfMemory → table_refusal roles.now tablespaces.now self.old table ≡ Some e) }
+        ensures lacking { IfErr result (λ e. e ≡ CatalogError.OutOfMemory → table_refusal roles.now tablespaces.now self.old table ≡ None) }
         ensures unchanged { OnErr result (self.new ≡ self.old) }
     {
         table_numbers_fit(&table);
@@ -131,6 +135,7 @@ impl Database {
         ensures ok { OnOk result ((index_refusal tablespaces.now self.old index ≡ None) × (self.new ≡ add_index index self.old)) }
         ensures fits { OnOk result ((is_32_bits index.oid ≡ true) × (is_32_bits index.file ≡ true)) }
         ensures refused { IfErr result (λ e. e ≢ CatalogError.OutOfMemory → index_refusal tablespaces.now self.old index ≡ Some e) }
+        ensures lacking { IfErr result (λ e. e ≡ CatalogError.OutOfMemory → index_refusal tablespaces.now self.old index ≡ None) }
         ensures unchanged { OnErr result (self.new ≡ self.old) }
     {
         fits(index.oid);
@@ -152,6 +157,7 @@ impl Database {
         ensures ok { OnOk result ((sequence_refusal roles.now self.old sequence ≡ None) × (self.new ≡ add_sequence sequence self.old)) }
         ensures fits { OnOk result ((is_32_bits sequence.oid ≡ true) × (is_32_bits sequence.file ≡ true)) }
         ensures refused { IfErr result (λ e. e ≢ CatalogError.OutOfMemory → sequence_refusal roles.now self.old sequence ≡ Some e) }
+        ensures lacking { IfErr result (λ e. e ≡ CatalogError.OutOfMemory → sequence_refusal roles.now self.old sequence ≡ None) }
         ensures unchanged { OnErr result (self.new ≡ self.old) }
     {
         fits(sequence.oid);

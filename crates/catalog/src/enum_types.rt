@@ -1,5 +1,5 @@
 // The enums of a database, in the order of their additions.
-ghost use Rattle.std.specs.Prelude.{◌≡◌, ◌≢◌, ◌++◌, ◌∷◌, [], None, nat_eq, OnOk, OnErr, IfErr};
+ghost use Rattle.std.specs.Prelude.{◌≡◌, ◌≢◌, ◌++◌, ◌∷◌, [], None, nat_eq, IsSome, OnOk, OnErr, IfErr};
 ghost use Rattle.std.specs.Option.{option_copied};
 ghost use Rattle.std.specs.List.{list_any, find, position};
 ghost use Rattle.catalog.specs.Lists.{change_first};
@@ -83,6 +83,7 @@ impl EnumTypes {
         requires { LabelIsFree self.old label }
         ensures ok { OnOk result (self.new ≡ change_first (enum_has kind) (labelled label) self.old) }
         ensures missing { IfErr result (λ e. e ≢ CatalogError.OutOfMemory → (e ≡ CatalogError.NoSuch) × (find (enum_has kind) self.old ≡ None)) }
+        ensures lacking { IfErr result (λ e. e ≡ CatalogError.OutOfMemory → IsSome (find (enum_has kind) self.old)) }
         ensures unchanged { OnErr result (self.new ≡ self.old) }
     {
         let Some(place) = self.place_of(kind) else {

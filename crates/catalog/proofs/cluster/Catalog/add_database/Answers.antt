@@ -1,10 +1,14 @@
-use Rattle.std.proofs.Common.{◌≡◌, List, None, true, subst, sym, ◌∙◌}
+use Rattle.std.proofs.Common.{◌≡◌, List, None, true, subst, sym, ◌∙◌, Some, ap}
 use Rattle.catalog.specs.declared.owners.Role.{Role}
 use Rattle.catalog.specs.Cluster.{Cluster, DatabaseObjects}
 use Rattle.catalog.specs.Forms.{is_32_bits}
 use Rattle.catalog.specs.Refusals.{database_refusal}
+use Rattle.catalog.proofs.CauseLemmas.{never_memory}
 use Rattle.catalog.proofs.ClusterLemmas.{database_keeps}
 use Rattle.catalog.proofs.cluster.Catalog.add_database.Goals as goal
+
+pub returns-in-Some-clause-lacking : goal.returns-in-Some-clause-lacking
+returns-in-Some-clause-lacking c = λ lacked. absurd (never_memory _ _ _ _ _ (sym c.refusal_of_database.ensures ∙ c.in-Some.is ∙ ap Some lacked))
 
 pub invariant_of-self-2 : goal.invariant_of-self-2
 invariant_of-self-2 c =

@@ -28,6 +28,15 @@ returns-in_err-add_index-clause-refused c =
     let e : CatalogError = c.in_err-add_index.field-0.0 in
     rw (p.1, p.2, ← c.self.view_is) (λ real. CatalogLemmas.lent_refused now c.args.database c.in_ok-place.place (λ (d : DatabaseObjects). index_refusal c.self.inside.tablespaces.items d c.args.index) (add_index c.args.index) lent e at (subst (λ (ts : List Tablespace). index_refusal ts lent c.args.index ≡ Some e) c.deref-2.ensures.value (c.in_err-add_index.ensures.refused real)))
 
+pub returns-in_err-add_index-clause-lacking : goal.returns-in_err-add_index-clause-lacking
+returns-in_err-add_index-clause-lacking c =
+    let p = err_from_is_err_and c.from_residual-in_err-add_index.result c.from_residual-in_err-add_index.ensures.1 in
+    let now : Cluster = record { bootstrap = c.self.inside.bootstrap; roles = c.self.inside.roles.items; tablespaces = c.self.inside.tablespaces.items; databases = c.self.inside.databases.items } in
+    let lent : DatabaseObjects = c.index_mut-found.result.now in
+    let found : position (database_has c.args.database) c.self.inside.databases.items ≡ Some c.in_ok-place.place = subst (λ (ds : List DatabaseObjects). position (database_has c.args.database) ds ≡ Some c.in_ok-place.place) c.deref.ensures.value c.in_ok-place.ensures.found in
+    let at : CatalogLemmas.Lent now c.args.database c.in_ok-place.place lent = record { place = found; entry = c.index_mut-found.ensures.value } in
+    rw (p.1, p.2, ← c.self.view_is) (λ lacked. CatalogLemmas.lent_is_made now c.args.database c.in_ok-place.place (λ (d : DatabaseObjects). index_refusal c.self.inside.tablespaces.items d c.args.index) (add_index c.args.index) lent at (subst (λ (ts : List Tablespace). index_refusal ts lent c.args.index ≡ None) c.deref-2.ensures.value (c.in_err-add_index.ensures.lacking lacked)))
+
 pub returns-clause-ok : goal.returns-clause-ok
 returns-clause-ok c =
     let now : Cluster = record { bootstrap = c.self.inside.bootstrap; roles = c.self.inside.roles.items; tablespaces = c.self.inside.tablespaces.items; databases = c.self.inside.databases.items } in

@@ -29,6 +29,15 @@ returns-in_err-add_table-clause-refused c =
     let e : CatalogError = c.in_err-add_table.field-0.0 in
     rw (p.1, p.2, ← c.self.view_is) (λ real. CatalogLemmas.lent_refused now c.args.database c.in_ok-place.place (λ (d : DatabaseObjects). table_refusal c.self.inside.roles.items c.self.inside.tablespaces.items d c.args.table) (add_table c.args.table) lent e at (subst (λ (ts : List Tablespace). table_refusal c.self.inside.roles.items ts lent c.args.table ≡ Some e) c.deref-3.ensures.value (subst (λ (rs : List Role). table_refusal rs c.deref-3.result.now lent c.args.table ≡ Some e) c.deref-2.ensures.value (c.in_err-add_table.ensures.refused real))))
 
+pub returns-in_err-add_table-clause-lacking : goal.returns-in_err-add_table-clause-lacking
+returns-in_err-add_table-clause-lacking c =
+    let p = err_from_is_err_and c.from_residual-in_err-add_table.result c.from_residual-in_err-add_table.ensures.1 in
+    let now : Cluster = record { bootstrap = c.self.inside.bootstrap; roles = c.self.inside.roles.items; tablespaces = c.self.inside.tablespaces.items; databases = c.self.inside.databases.items } in
+    let lent : DatabaseObjects = c.index_mut-found.result.now in
+    let found : position (database_has c.args.database) c.self.inside.databases.items ≡ Some c.in_ok-place.place = subst (λ (ds : List DatabaseObjects). position (database_has c.args.database) ds ≡ Some c.in_ok-place.place) c.deref.ensures.value c.in_ok-place.ensures.found in
+    let at : CatalogLemmas.Lent now c.args.database c.in_ok-place.place lent = record { place = found; entry = c.index_mut-found.ensures.value } in
+    rw (p.1, p.2, ← c.self.view_is) (λ lacked. CatalogLemmas.lent_is_made now c.args.database c.in_ok-place.place (λ (d : DatabaseObjects). table_refusal c.self.inside.roles.items c.self.inside.tablespaces.items d c.args.table) (add_table c.args.table) lent at (subst (λ (ts : List Tablespace). table_refusal c.self.inside.roles.items ts lent c.args.table ≡ None) c.deref-3.ensures.value (subst (λ (rs : List Role). table_refusal rs c.deref-3.result.now lent c.args.table ≡ None) c.deref-2.ensures.value (c.in_err-add_table.ensures.lacking lacked))))
+
 pub returns-clause-ok : goal.returns-clause-ok
 returns-clause-ok c =
     let now : Cluster = record { bootstrap = c.self.inside.bootstrap; roles = c.self.inside.roles.items; tablespaces = c.self.inside.tablespaces.items; databases = c.self.inside.databases.items } in

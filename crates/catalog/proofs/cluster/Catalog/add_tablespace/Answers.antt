@@ -1,12 +1,16 @@
-use Rattle.std.proofs.Common.{◌≡◌, List, None, true, subst, sym, ◌∙◌}
+use Rattle.std.proofs.Common.{◌≡◌, List, None, true, subst, sym, ◌∙◌, Some, ap}
 use Rattle.std.specs.List.{list_all}
 use Rattle.fs_model.specs.Names.{is_name}
 use Rattle.catalog.specs.declared.owners.Role.{Role}
 use Rattle.catalog.specs.declared.owners.Tablespace.{Tablespace}
 use Rattle.catalog.specs.Cluster.{Cluster}
 use Rattle.catalog.specs.Refusals.{tablespace_refusal}
+use Rattle.catalog.proofs.CauseLemmas.{never_memory}
 use Rattle.catalog.proofs.ClusterLemmas.{tablespace_keeps}
 use Rattle.catalog.proofs.cluster.Catalog.add_tablespace.Goals as goal
+
+pub returns-in-Some-clause-lacking : goal.returns-in-Some-clause-lacking
+returns-in-Some-clause-lacking c = λ lacked. absurd (never_memory _ _ _ _ _ (sym c.refusal_of_tablespace.ensures ∙ c.in-Some.is ∙ ap Some lacked))
 
 pub invariant_of-self-2 : goal.invariant_of-self-2
 invariant_of-self-2 c =

@@ -1,8 +1,12 @@
-use Rattle.std.proofs.Common.{sym, subst, ◌∙◌}
+use Rattle.std.proofs.Common.{sym, subst, ◌∙◌, Some, ap}
 use Rattle.catalog.specs.Cluster.{DatabaseObjects}
 use Rattle.catalog.specs.Known.{EnumIsFree}
 use Rattle.catalog.proofs.FreeLemmas.{enum_free}
+use Rattle.catalog.proofs.CauseLemmas.{never_memory}
 use Rattle.catalog.proofs.databases.Database.add_enum.Goals as goal
+
+pub returns-in-Some-clause-lacking : goal.returns-in-Some-clause-lacking
+returns-in-Some-clause-lacking c = λ lacked. absurd (never_memory _ _ _ _ _ (sym c.refusal_of_enum.ensures ∙ c.in-Some.is ∙ ap Some lacked))
 
 pub push-requires : goal.push-requires
 push-requires c = subst (λ (d : DatabaseObjects). EnumIsFree d.enums c.args.kind) (sym c.self.view_is) (enum_free c.args.roles.now c.args.self.now c.args.kind (sym c.refusal_of_enum.ensures ∙ c.in_default.is))

@@ -1,10 +1,14 @@
-use Rattle.std.proofs.Common.{◌≡◌, true, None, length, sym, subst, ◌∙◌, rules}
+use Rattle.std.proofs.Common.{◌≡◌, true, None, length, sym, subst, ◌∙◌, rules, Some, ap}
 use Rattle.catalog.specs.Cluster.{DatabaseObjects}
 use Rattle.catalog.specs.Refusals.{index_refusal}
 use Rattle.catalog.specs.Known.{IndexIsFree, has_table}
 use Rattle.catalog.proofs.FreeLemmas.{index_free, index_has_table}
 use Rattle.catalog.proofs.IndexNames.{index_names_noted, index_names_joined}
+use Rattle.catalog.proofs.CauseLemmas.{never_memory}
 use Rattle.catalog.proofs.databases.Database.add_index.Goals as goal
+
+pub returns-in-Some-clause-lacking : goal.returns-in-Some-clause-lacking
+returns-in-Some-clause-lacking c = λ lacked. absurd (never_memory _ _ _ _ _ (sym c.refusal_of_index.ensures ∙ c.in-Some.is ∙ ap Some lacked))
 
 pub put_index_name-requires : goal.put_index_name-requires
 put_index_name-requires c = subst (λ (d : DatabaseObjects). has_table d.tables c.args.index ≡ true) (sym c.self.view_is) (index_has_table c.args.tablespaces.now c.args.self.now c.args.index (sym c.refusal_of_index.ensures ∙ c.in_default.is))

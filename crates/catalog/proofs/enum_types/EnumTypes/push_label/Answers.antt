@@ -1,17 +1,28 @@
 use Rattle.std.proofs.Common.{◌≡◌, List, Some, set, refl, sym, ap, subst, ◌∙◌}
 use Rattle.std.specs.Prelude.{slice_get}
 use Rattle.std.specs.List.{position}
+use Rattle.std.proofs.lemmas.Result.{err_from_is_err_and}
 use Rattle.catalog.specs.declared.enums.Label.{Label}
 use Rattle.catalog.specs.declared.enums.EnumType.{EnumType}
 use Rattle.catalog.specs.Spaces.{enum_has}
 use Rattle.catalog.specs.Changes.{labelled}
-use Rattle.catalog.proofs.ListLemmas.{Found, none_found, found_at}
+use Rattle.catalog.proofs.ListLemmas.{Found, none_found, some_found, found_at}
 use Rattle.catalog.proofs.KnownLists.{label_kept, enum_at_position}
 use Rattle.catalog.proofs.LabelPlaces.{labels_kept, labels_joined}
 use Rattle.catalog.proofs.enum_types.EnumTypes.push_label.Goals as goal
 
 pub returns-in_default-clause-missing : goal.returns-in_default-clause-missing
 returns-in_default-clause-missing c = λ _. (refl, none_found (enum_has c.args.kind) c.args.self.now (sym c.place_of.ensures ∙ c.in_default.is))
+
+pub returns-in_err-put-clause-lacking : goal.returns-in_err-put-clause-lacking
+returns-in_err-put-clause-lacking c =
+    let p = err_from_is_err_and c.from_residual.result c.from_residual.ensures.1 in
+    rw p.1 (λ _. some_found (enum_has c.args.kind) c.args.self.now c.in-Some.place (sym c.place_of.ensures ∙ c.in-Some.is))
+
+pub returns-in_err-push-clause-lacking : goal.returns-in_err-push-clause-lacking
+returns-in_err-push-clause-lacking c =
+    let p = err_from_is_err_and c.from_residual-in_err-push.result c.from_residual-in_err-push.ensures.1 in
+    rw p.1 (λ _. some_found (enum_has c.args.kind) c.args.self.now c.in-Some.place (sym c.place_of.ensures ∙ c.in-Some.is))
 
 pub invariant_of-self : goal.invariant_of-self
 invariant_of-self c =
