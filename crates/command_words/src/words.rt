@@ -1,6 +1,7 @@
 // Single words.
-ghost use Rattle.std.specs.Prelude.{◌≡◌, IfOk, IfErr, bytes_eq};
+ghost use Rattle.std.specs.Prelude.{◌≡◌, ◌≤◌, true, length, IfOk, IfErr, OnErr, bytes_eq};
 ghost use Rattle.std.specs.Option.{option_copied};
+ghost use Rattle.fs_model.specs.PathText.{begins_with_slash};
 ghost use Rattle.command_words.specs.Reading.{after, dir_named, flag};
 
 use crate::chosen::Flag;
@@ -45,6 +46,8 @@ pub(crate) fn flag_of(word: &str) -> Option<Flag>
 pub(crate) fn directory(alloc: Global, word: &str) -> Result<Option<Path>, WordsError>
     ensures named { IfOk result (λ dir. dir ≡ dir_named word.now) }
     ensures usage { IfErr result (λ e. e ≡ WordsError.OutOfMemory) }
+    ensures short { OnErr result (length word.now ≤ 1024) }
+    ensures slash { OnErr result (begins_with_slash word.now ≡ true) }
 {
     if word.len() > 1024 {
         return Ok(None);
