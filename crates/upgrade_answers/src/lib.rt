@@ -1,5 +1,6 @@
 //! What an upgrade answers, the exit status that tells it, and the lines that are printed for it. `put_lines` puts exactly
-//! the lines of an answer, or tells that the sink failed or lacked memory; `Outcome::code` is the exit status.
+//! the lines of an answer, or a first part of them and tells that the sink failed or lacked memory; `Outcome::code` is the
+//! exit status.
 #![tactic(auto)]
 
 mod answer;

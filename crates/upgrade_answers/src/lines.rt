@@ -1,7 +1,8 @@
 // The printed lines of an answer. No call here takes memory.
-ghost use Rattle.std.specs.Prelude.{◌≡◌, ◌++◌, true, OnOk};
-ghost use Rattle.fs_model.specs.Output.{SinkHasCause};
+ghost use Rattle.std.specs.Prelude.{◌≡◌, ◌++◌, true};
+ghost use Rattle.fs_model.specs.Output.{SinkHasCause, IsPartPut};
 ghost use Rattle.upgrade_answers.specs.Lines.{refusal_line, counted_lines, verdict_text, change_text, lines_of, printed_of, PrintedRose};
+ghost use Rattle.upgrade_answers.specs.Puts.{Puts};
 
 use crate::parts::{put_labelled, put_place, put_three};
 use crate::reasons::put_reason;
@@ -13,7 +14,7 @@ use phase_names::Summary;
 
 fn put_refusal<K: Sink>(out: &mut K, refusal: &Refusal) -> Result<(), SinkError>
     ensures told { K.told out.new ≡ K.told out.old }
-    ensures appended { K.told out.old ≡ true → OnOk result (K.written out.new ≡ K.written out.old ++ refusal_line refusal.now) }
+    ensures appended { K.told out.old ≡ true → Puts (K.written out.old) (refusal_line refusal.now) result (K.written out.new) }
     ensures cause { SinkHasCause (K.counts out.old) (K.counts out.new) result }
 {
     out.put(b"refused: ")?;
@@ -24,7 +25,7 @@ fn put_refusal<K: Sink>(out: &mut K, refusal: &Refusal) -> Result<(), SinkError>
 // The numbers of what was carried.
 fn put_counted<K: Sink>(out: &mut K, summary: Summary) -> Result<(), SinkError>
     ensures told { K.told out.new ≡ K.told out.old }
-    ensures appended { K.told out.old ≡ true → OnOk result (K.written out.new ≡ K.written out.old ++ counted_lines summary) }
+    ensures appended { K.told out.old ≡ true → Puts (K.written out.old) (counted_lines summary) result (K.written out.new) }
     ensures cause { SinkHasCause (K.counts out.old) (K.counts out.new) result }
 {
     put_labelled(out, b"databases: ", summary.databases)?;
@@ -35,7 +36,7 @@ fn put_counted<K: Sink>(out: &mut K, summary: Summary) -> Result<(), SinkError>
 
 fn put_done<K: Sink>(out: &mut K, summary: Summary) -> Result<(), SinkError>
     ensures told { K.told out.new ≡ K.told out.old }
-    ensures appended { K.told out.old ≡ true → OnOk result (K.written out.new ≡ K.written out.old ++ lines_of (Answer.Done summary)) }
+    ensures appended { K.told out.old ≡ true → Puts (K.written out.old) (lines_of (Answer.Done summary)) result (K.written out.new) }
     ensures cause { SinkHasCause (K.counts out.old) (K.counts out.new) result }
 {
     out.put(b"checks: ok\n")?;
@@ -45,7 +46,7 @@ fn put_done<K: Sink>(out: &mut K, summary: Summary) -> Result<(), SinkError>
 
 fn put_tested<K: Sink>(out: &mut K, summary: Summary, rows: u64) -> Result<(), SinkError>
     ensures told { K.told out.new ≡ K.told out.old }
-    ensures appended { K.told out.old ≡ true → OnOk result (K.written out.new ≡ K.written out.old ++ lines_of (Answer.Tested summary rows)) }
+    ensures appended { K.told out.old ≡ true → Puts (K.written out.old) (lines_of (Answer.Tested summary rows)) result (K.written out.new) }
     ensures cause { SinkHasCause (K.counts out.old) (K.counts out.new) result }
 {
     put_counted(out, summary)?;
@@ -55,7 +56,7 @@ fn put_tested<K: Sink>(out: &mut K, summary: Summary, rows: u64) -> Result<(), S
 
 fn put_verdict<K: Sink>(out: &mut K, verdict: Verdict) -> Result<(), SinkError>
     ensures told { K.told out.new ≡ K.told out.old }
-    ensures appended { K.told out.old ≡ true → OnOk result (K.written out.new ≡ K.written out.old ++ verdict_text verdict) }
+    ensures appended { K.told out.old ≡ true → Puts (K.written out.old) (verdict_text verdict) result (K.written out.new) }
     ensures cause { SinkHasCause (K.counts out.old) (K.counts out.new) result }
 {
     match verdict {
@@ -70,7 +71,7 @@ fn put_verdict<K: Sink>(out: &mut K, verdict: Verdict) -> Result<(), SinkError>
 
 fn put_report<K: Sink>(out: &mut K, verdict: Verdict) -> Result<(), SinkError>
     ensures told { K.told out.new ≡ K.told out.old }
-    ensures appended { K.told out.old ≡ true → OnOk result (K.written out.new ≡ K.written out.old ++ lines_of (Answer.Reported verdict)) }
+    ensures appended { K.told out.old ≡ true → Puts (K.written out.old) (lines_of (Answer.Reported verdict)) result (K.written out.new) }
     ensures cause { SinkHasCause (K.counts out.old) (K.counts out.new) result }
 {
     out.put(b"report: ")?;
@@ -80,7 +81,7 @@ fn put_report<K: Sink>(out: &mut K, verdict: Verdict) -> Result<(), SinkError>
 
 fn put_usage<K: Sink>(out: &mut K, position: u64) -> Result<(), SinkError>
     ensures told { K.told out.new ≡ K.told out.old }
-    ensures appended { K.told out.old ≡ true → OnOk result (K.written out.new ≡ K.written out.old ++ lines_of (Answer.Usage position)) }
+    ensures appended { K.told out.old ≡ true → Puts (K.written out.old) (lines_of (Answer.Usage position)) result (K.written out.new) }
     ensures cause { SinkHasCause (K.counts out.old) (K.counts out.new) result }
 {
     put_labelled(out, b"usage fault at word ", position)?;
@@ -89,7 +90,7 @@ fn put_usage<K: Sink>(out: &mut K, position: u64) -> Result<(), SinkError>
 
 fn put_change<K: Sink>(out: &mut K, change: Change) -> Result<(), SinkError>
     ensures told { K.told out.new ≡ K.told out.old }
-    ensures appended { K.told out.old ≡ true → OnOk result (K.written out.new ≡ K.written out.old ++ change_text change) }
+    ensures appended { K.told out.old ≡ true → Puts (K.written out.old) (change_text change) result (K.written out.new) }
     ensures cause { SinkHasCause (K.counts out.old) (K.counts out.new) result }
 {
     match change {
@@ -101,7 +102,7 @@ fn put_change<K: Sink>(out: &mut K, change: Change) -> Result<(), SinkError>
 
 fn put_moved<K: Sink>(out: &mut K, root: &Path, change: Change) -> Result<(), SinkError>
     ensures told { K.told out.new ≡ K.told out.old }
-    ensures appended { K.told out.old ≡ true → OnOk result (K.written out.new ≡ K.written out.old ++ lines_of (Answer.Moved root.now change)) }
+    ensures appended { K.told out.old ≡ true → Puts (K.written out.old) (lines_of (Answer.Moved root.now change)) result (K.written out.new) }
     ensures cause { SinkHasCause (K.counts out.old) (K.counts out.new) result }
 {
     put_place(out, b"changed under the run: ", root, b", ")?;
@@ -111,7 +112,7 @@ fn put_moved<K: Sink>(out: &mut K, root: &Path, change: Change) -> Result<(), Si
 
 fn put_answer<K: Sink>(out: &mut K, answer: &Answer) -> Result<(), SinkError>
     ensures told { K.told out.new ≡ K.told out.old }
-    ensures appended { K.told out.old ≡ true → OnOk result (K.written out.new ≡ K.written out.old ++ lines_of answer.now) }
+    ensures appended { K.told out.old ≡ true → Puts (K.written out.old) (lines_of answer.now) result (K.written out.new) }
     ensures cause { SinkHasCause (K.counts out.old) (K.counts out.new) result }
 {
     match answer {
@@ -144,10 +145,13 @@ fn printed(put: Result<(), SinkError>) -> Printed
     }
 }
 
-/// Puts the lines of an answer into a sink, each ended by a newline. Takes no memory of its own.
+/// Puts the lines of an answer into a sink, each ended by a newline. After an error a first part of the lines was put. Takes no
+/// memory of its own.
+#[tactic(auto, using(crate::proofs::Pieces::part_put))]
 pub fn put_lines<K: Sink>(out: &mut K, answer: &Answer) -> Printed
     ensures told { K.told out.new ≡ K.told out.old }
     ensures whole { K.told out.old ≡ true → result ≡ Printed.Whole → K.written out.new ≡ K.written out.old ++ lines_of answer.now }
+    ensures begun { K.told out.old ≡ true → IsPartPut (K.written out.old) (lines_of answer.now) (K.written out.new) }
     ensures rose { PrintedRose result (K.counts out.old) (K.counts out.new) }
 {
     printed(put_answer(out, answer))

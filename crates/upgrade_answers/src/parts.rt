@@ -1,15 +1,16 @@
 // Putting texts, numbers and paths. No call here takes memory.
-ghost use Rattle.std.specs.Prelude.{◌≡◌, ◌++◌, true, OnOk, codes};
+ghost use Rattle.std.specs.Prelude.{◌≡◌, ◌++◌, true, codes};
 ghost use Rattle.fs_model.specs.PathText.{text_of};
 ghost use Rattle.fs_model.specs.Output.{SinkHasCause};
 ghost use Rattle.upgrade_answers.specs.Lines.{labelled};
+ghost use Rattle.upgrade_answers.specs.Puts.{Puts};
 
 use fs_model::{Name, Path, Sink, SinkError};
 use itoa::Buffer;
 
 pub(crate) fn put_two<K: Sink>(out: &mut K, first: &[u8], second: &[u8]) -> Result<(), SinkError>
     ensures told { K.told out.new ≡ K.told out.old }
-    ensures appended { K.told out.old ≡ true → OnOk result (K.written out.new ≡ K.written out.old ++ (first.now ++ second.now)) }
+    ensures appended { K.told out.old ≡ true → Puts (K.written out.old) (first.now ++ second.now) result (K.written out.new) }
     ensures cause { SinkHasCause (K.counts out.old) (K.counts out.new) result }
 {
     out.put(first)?;
@@ -23,17 +24,18 @@ pub(crate) fn put_three<K: Sink>(
     third: &[u8],
 ) -> Result<(), SinkError>
     ensures told { K.told out.new ≡ K.told out.old }
-    ensures appended { K.told out.old ≡ true → OnOk result (K.written out.new ≡ K.written out.old ++ (first.now ++ second.now ++ third.now)) }
+    ensures appended { K.told out.old ≡ true → Puts (K.written out.old) (first.now ++ second.now ++ third.now) result (K.written out.new) }
     ensures cause { SinkHasCause (K.counts out.old) (K.counts out.new) result }
 {
-    put_two(out, first, second)?;
+    out.put(first)?;
+    out.put(second)?;
     out.put(third)
 }
 
 /// A text and a number.
 pub(crate) fn put_labelled<K: Sink>(out: &mut K, label: &[u8], number: u64) -> Result<(), SinkError>
     ensures told { K.told out.new ≡ K.told out.old }
-    ensures appended { K.told out.old ≡ true → OnOk result (K.written out.new ≡ K.written out.old ++ labelled label.now number) }
+    ensures appended { K.told out.old ≡ true → Puts (K.written out.old) (labelled label.now number) result (K.written out.new) }
     ensures cause { SinkHasCause (K.counts out.old) (K.counts out.new) result }
 {
     let mut buffer = Buffer::new();
@@ -42,7 +44,7 @@ pub(crate) fn put_labelled<K: Sink>(out: &mut K, label: &[u8], number: u64) -> R
 
 fn put_name<K: Sink>(out: &mut K, name: &Name) -> Result<(), SinkError>
     ensures told { K.told out.new ≡ K.told out.old }
-    ensures appended { K.told out.old ≡ true → OnOk result (K.written out.new ≡ (K.written out.old ++ codes "/") ++ name.now) }
+    ensures appended { K.told out.old ≡ true → Puts (K.written out.old) (codes "/" ++ name.now) result (K.written out.new) }
     ensures cause { SinkHasCause (K.counts out.old) (K.counts out.new) result }
 {
     out.put(b"/")?;
@@ -52,7 +54,7 @@ fn put_name<K: Sink>(out: &mut K, name: &Name) -> Result<(), SinkError>
 /// A path as it is written in a command line.
 pub(crate) fn put_path<K: Sink>(out: &mut K, path: &Path) -> Result<(), SinkError>
     ensures told { K.told out.new ≡ K.told out.old }
-    ensures appended { K.told out.old ≡ true → OnOk result (K.written out.new ≡ K.written out.old ++ text_of path.now) }
+    ensures appended { K.told out.old ≡ true → Puts (K.written out.old) (text_of path.now) result (K.written out.new) }
     ensures cause { SinkHasCause (K.counts out.old) (K.counts out.new) result }
 {
     let names = path.names();
@@ -73,7 +75,7 @@ pub(crate) fn put_place<K: Sink>(
     after: &[u8],
 ) -> Result<(), SinkError>
     ensures told { K.told out.new ≡ K.told out.old }
-    ensures appended { K.told out.old ≡ true → OnOk result (K.written out.new ≡ K.written out.old ++ (before.now ++ text_of path.now ++ after.now)) }
+    ensures appended { K.told out.old ≡ true → Puts (K.written out.old) (before.now ++ text_of path.now ++ after.now) result (K.written out.new) }
     ensures cause { SinkHasCause (K.counts out.old) (K.counts out.new) result }
 {
     out.put(before)?;

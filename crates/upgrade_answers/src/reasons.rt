@@ -1,7 +1,8 @@
 // Putting the reason of a refusal.
-ghost use Rattle.std.specs.Prelude.{◌≡◌, ◌++◌, true, OnOk};
+ghost use Rattle.std.specs.Prelude.{◌≡◌, true};
 ghost use Rattle.fs_model.specs.Output.{SinkHasCause};
 ghost use Rattle.upgrade_answers.specs.Lines.{sided, numbered, catalog_reason, differing_reason, column_reason, reason_of};
+ghost use Rattle.upgrade_answers.specs.Puts.{Puts};
 
 use crate::parts::{put_labelled, put_path, put_place, put_two};
 use crate::texts::{field_text, side_text};
@@ -12,7 +13,7 @@ use fs_model::{Path, Sink, SinkError};
 
 fn put_sided<K: Sink>(out: &mut K, side: Side, text: &[u8]) -> Result<(), SinkError>
     ensures told { K.told out.new ≡ K.told out.old }
-    ensures appended { K.told out.old ≡ true → OnOk result (K.written out.new ≡ K.written out.old ++ sided side text.now) }
+    ensures appended { K.told out.old ≡ true → Puts (K.written out.old) (sided side text.now) result (K.written out.new) }
     ensures cause { SinkHasCause (K.counts out.old) (K.counts out.new) result }
 {
     put_two(out, side_text(side), text)
@@ -20,7 +21,7 @@ fn put_sided<K: Sink>(out: &mut K, side: Side, text: &[u8]) -> Result<(), SinkEr
 
 fn put_numbered<K: Sink>(out: &mut K, side: Side, text: &[u8], number: u32) -> Result<(), SinkError>
     ensures told { K.told out.new ≡ K.told out.old }
-    ensures appended { K.told out.old ≡ true → OnOk result (K.written out.new ≡ K.written out.old ++ numbered side text.now number) }
+    ensures appended { K.told out.old ≡ true → Puts (K.written out.old) (numbered side text.now number) result (K.written out.new) }
     ensures cause { SinkHasCause (K.counts out.old) (K.counts out.new) result }
 {
     out.put(side_text(side))?;
@@ -34,7 +35,7 @@ fn put_differing<K: Sink>(
     in_new: u32,
 ) -> Result<(), SinkError>
     ensures told { K.told out.new ≡ K.told out.old }
-    ensures appended { K.told out.old ≡ true → OnOk result (K.written out.new ≡ K.written out.old ++ differing_reason field in_old in_new) }
+    ensures appended { K.told out.old ≡ true → Puts (K.written out.old) (differing_reason field in_old in_new) result (K.written out.new) }
     ensures cause { SinkHasCause (K.counts out.old) (K.counts out.new) result }
 {
     out.put(field_text(field))?;
@@ -51,7 +52,7 @@ fn put_catalog_reason<K: Sink>(
     cause: u8,
 ) -> Result<(), SinkError>
     ensures told { K.told out.new ≡ K.told out.old }
-    ensures appended { K.told out.old ≡ true → OnOk result (K.written out.new ≡ K.written out.old ++ catalog_reason side line cause) }
+    ensures appended { K.told out.old ≡ true → Puts (K.written out.old) (catalog_reason side line cause) result (K.written out.new) }
     ensures cause { SinkHasCause (K.counts out.old) (K.counts out.new) result }
 {
     out.put(side_text(side))?;
@@ -68,7 +69,7 @@ fn put_column<K: Sink>(
     text: &[u8],
 ) -> Result<(), SinkError>
     ensures told { K.told out.new ≡ K.told out.old }
-    ensures appended { K.told out.old ≡ true → OnOk result (K.written out.new ≡ K.written out.old ++ column_reason database table column text.now) }
+    ensures appended { K.told out.old ≡ true → Puts (K.written out.old) (column_reason database table column text.now) result (K.written out.new) }
     ensures cause { SinkHasCause (K.counts out.old) (K.counts out.new) result }
 {
     put_labelled(out, b"database ", u64::from(database))?;
@@ -79,7 +80,7 @@ fn put_column<K: Sink>(
 
 fn put_tablespace<K: Sink>(out: &mut K, path: &Path) -> Result<(), SinkError>
     ensures told { K.told out.new ≡ K.told out.old }
-    ensures appended { K.told out.old ≡ true → OnOk result (K.written out.new ≡ K.written out.old ++ reason_of (Refusal.TablespaceDir path.now)) }
+    ensures appended { K.told out.old ≡ true → Puts (K.written out.old) (reason_of (Refusal.TablespaceDir path.now)) result (K.written out.new) }
     ensures cause { SinkHasCause (K.counts out.old) (K.counts out.new) result }
 {
     out.put(b"tablespace ")?;
@@ -89,7 +90,7 @@ fn put_tablespace<K: Sink>(out: &mut K, path: &Path) -> Result<(), SinkError>
 /// Why an upgrade is refused, without what stands before and behind it on the line.
 pub(crate) fn put_reason<K: Sink>(out: &mut K, refusal: &Refusal) -> Result<(), SinkError>
     ensures told { K.told out.new ≡ K.told out.old }
-    ensures appended { K.told out.old ≡ true → OnOk result (K.written out.new ≡ K.written out.old ++ reason_of refusal.now) }
+    ensures appended { K.told out.old ≡ true → Puts (K.written out.old) (reason_of refusal.now) result (K.written out.new) }
     ensures cause { SinkHasCause (K.counts out.old) (K.counts out.new) result }
 {
     match refusal {

@@ -1,5 +1,8 @@
-use Rattle.std.proofs.Common.{◌∙◌, arith}
-use Rattle.upgrade_answers.proofs.NamedNext.{named_next}
+use Rattle.std.proofs.Common.{◌∙◌, ◌++◌, ◌∷◌, ℕ, suc, List, drop, take, ap, arith}
+use Rattle.fs_model.specs.Names.{slash}
+use Rattle.fs_model.specs.PathText.{joined, text_of}
+use Rattle.upgrade_answers.proofs.NamedNext.{named_next, text_around}
+use Rattle.upgrade_answers.proofs.Pieces.{failed, part_front, part_behind, part_same}
 use Rattle.upgrade_answers.proofs.parts.put_path.Goals as goal
 
 pub loop-name-preserved : goal.loop-name-preserved
@@ -14,3 +17,16 @@ loop-name-preserved g c = record {
     told = (c.in_ok-put_name.ensures.cause.told.0 ∙ c.loop-name.invariant.cause.told.0, c.in_ok-put_name.ensures.cause.told.1 ∙ c.loop-name.invariant.cause.told.1);
   };
 }
+
+pub returns-in_err-put_name-clause-appended : goal.returns-in_err-put_name-clause-appended
+returns-in_err-put_name-clause-appended g c told =
+    let w = g.K.Sink.written c.args.out.now in
+    let names = c.names-names.result.now in
+    let index = c.loop-name.name-index in
+    let before : List ℕ = joined (take index names) in
+    let name : List ℕ = slash ∷ c.name-item.result in
+    let after : List ℕ = joined (drop (suc index) names) in
+    failed _ _ _ _ _ c.from_residual.ensures.1
+    (part_same w ((before ++ name) ++ after) (text_of c.args.path.now) _ (text_around names index c.name-item.result c.loop-name-test.true c.name-item.is ∙ ap text_of c.names-names.ensures)
+    (part_front w (before ++ name) after _
+    (part_behind w before name _ _ (c.loop-name.invariant.appended told) (c.in_err-put_name.ensures.appended (c.loop-name.invariant.told ∙ told)))))

@@ -1,9 +1,11 @@
+use Rattle.std.proofs.Common.{ap}
 use Rattle.std.specs.Prelude.{codes}
-use Rattle.upgrade_answers.proofs.Pieces.{put_for, put_same_number}
+use Rattle.upgrade_answers.specs.Lines.{labelled}
+use Rattle.upgrade_answers.proofs.Pieces.{puts, puts_same, put_for}
 use Rattle.upgrade_answers.proofs.reasons.put_reason.Goals as goal
 
 pub returns-in-Overlap-clause-appended : goal.returns-in-Overlap-clause-appended
-returns-in-Overlap-clause-appended g c told = put_for _ _ _ _ _ c.in-Overlap.is (c.put.ensures.appended told)
+returns-in-Overlap-clause-appended g c told = put_for _ _ _ _ _ c.in-Overlap.is (puts _ _ _ _ (c.put.ensures.appended told) (c.put.ensures.part told))
 
 pub returns-in-MissingDir-clause-appended : goal.returns-in-MissingDir-clause-appended
 returns-in-MissingDir-clause-appended g c told = put_for _ _ _ _ _ c.in-MissingDir.is (c.put_sided.ensures.appended told)
@@ -18,7 +20,7 @@ pub returns-in-Running-clause-appended : goal.returns-in-Running-clause-appended
 returns-in-Running-clause-appended g c told = put_for _ _ _ _ _ c.in-Running.is (c.put_sided-in-Running.ensures.appended told)
 
 pub returns-in-OldDisabled-clause-appended : goal.returns-in-OldDisabled-clause-appended
-returns-in-OldDisabled-clause-appended g c told = put_for _ _ _ _ _ c.in-OldDisabled.is (c.put-in-OldDisabled.ensures.appended told)
+returns-in-OldDisabled-clause-appended g c told = put_for _ _ _ _ _ c.in-OldDisabled.is (puts _ _ _ _ (c.put-in-OldDisabled.ensures.appended told) (c.put-in-OldDisabled.ensures.part told))
 
 pub returns-in-NoControl-clause-appended : goal.returns-in-NoControl-clause-appended
 returns-in-NoControl-clause-appended g c told = put_for _ _ _ _ _ c.in-NoControl.is (c.put_sided-in-NoControl.ensures.appended told)
@@ -51,18 +53,18 @@ pub returns-in-CatalogText-clause-appended : goal.returns-in-CatalogText-clause-
 returns-in-CatalogText-clause-appended g c told = put_for _ _ _ _ _ c.in-CatalogText.is (c.put_catalog_reason.ensures.appended told)
 
 pub returns-in-TooMany-clause-appended : goal.returns-in-TooMany-clause-appended
-returns-in-TooMany-clause-appended g c told = put_for _ _ _ _ _ c.in-TooMany.is (c.put-in-TooMany.ensures.appended told)
+returns-in-TooMany-clause-appended g c told = put_for _ _ _ _ _ c.in-TooMany.is (puts _ _ _ _ (c.put-in-TooMany.ensures.appended told) (c.put-in-TooMany.ensures.part told))
 
 pub returns-in-InstallUser-clause-appended : goal.returns-in-InstallUser-clause-appended
-returns-in-InstallUser-clause-appended g c told = put_for _ _ _ _ _ c.in-InstallUser.is (c.put-in-InstallUser.ensures.appended told)
+returns-in-InstallUser-clause-appended g c told = put_for _ _ _ _ _ c.in-InstallUser.is (puts _ _ _ _ (c.put-in-InstallUser.ensures.appended told) (c.put-in-InstallUser.ensures.part told))
 
 pub returns-in-NewRoles-clause-appended : goal.returns-in-NewRoles-clause-appended
-returns-in-NewRoles-clause-appended g c told = put_for _ _ _ _ _ c.in-NewRoles.is (c.put-in-NewRoles.ensures.appended told)
+returns-in-NewRoles-clause-appended g c told = put_for _ _ _ _ _ c.in-NewRoles.is (puts _ _ _ _ (c.put-in-NewRoles.ensures.appended told) (c.put-in-NewRoles.ensures.part told))
 
 pub returns-in-ConnectFlag-clause-appended : goal.returns-in-ConnectFlag-clause-appended
 returns-in-ConnectFlag-clause-appended g c told =
     put_for _ _ _ _ _ c.in-ConnectFlag.is
-    (put_same_number _ _ _ (codes "connections of database ") c.from.result c.in-ConnectFlag.database c.from.ensures (c.put_labelled.ensures.appended told))
+    (puts_same _ _ _ _ _ (ap (λ n. labelled (codes "connections of database ") n) c.from.ensures) (c.put_labelled.ensures.appended told))
 
 pub returns-in-RegColumn-clause-appended : goal.returns-in-RegColumn-clause-appended
 returns-in-RegColumn-clause-appended g c told = put_for _ _ _ _ _ c.in-RegColumn.is (c.put_column.ensures.appended told)
@@ -71,7 +73,7 @@ pub returns-in-AclColumn-clause-appended : goal.returns-in-AclColumn-clause-appe
 returns-in-AclColumn-clause-appended g c told = put_for _ _ _ _ _ c.in-AclColumn.is (c.put_column-in-AclColumn.ensures.appended told)
 
 pub returns-in-NewNotEmpty-clause-appended : goal.returns-in-NewNotEmpty-clause-appended
-returns-in-NewNotEmpty-clause-appended g c told = put_for _ _ _ _ _ c.in-NewNotEmpty.is (c.put-in-NewNotEmpty.ensures.appended told)
+returns-in-NewNotEmpty-clause-appended g c told = put_for _ _ _ _ _ c.in-NewNotEmpty.is (puts _ _ _ _ (c.put-in-NewNotEmpty.ensures.appended told) (c.put-in-NewNotEmpty.ensures.part told))
 
 pub returns-in-NewUsed-clause-appended : goal.returns-in-NewUsed-clause-appended
 returns-in-NewUsed-clause-appended g c told = put_for _ _ _ _ _ c.in-NewUsed.is (c.put_place.ensures.appended told)
@@ -89,4 +91,4 @@ pub returns-in-DeviceDiffers-clause-appended : goal.returns-in-DeviceDiffers-cla
 returns-in-DeviceDiffers-clause-appended g c told = put_for _ _ _ _ _ c.in-DeviceDiffers.is (c.put_place-in-DeviceDiffers.ensures.appended told)
 
 pub returns-in-ControlOldExists-clause-appended : goal.returns-in-ControlOldExists-clause-appended
-returns-in-ControlOldExists-clause-appended g c told = put_for _ _ _ _ _ c.in-ControlOldExists.is (c.put-in-ControlOldExists.ensures.appended told)
+returns-in-ControlOldExists-clause-appended g c told = put_for _ _ _ _ _ c.in-ControlOldExists.is (puts _ _ _ _ (c.put-in-ControlOldExists.ensures.appended told) (c.put-in-ControlOldExists.ensures.part told))

@@ -1,0 +1,19 @@
+use Rattle.std.proofs.Common.{◌∙◌, ℕ, List}
+use Rattle.std.specs.Prelude.{codes}
+use Rattle.upgrade_answers.proofs.Pieces.{puts, failed, put_behind, part_front, puts_same}
+use Rattle.upgrade_answers.proofs.parts.put_name.Goals as goal
+
+pub returns-in_err-put-clause-appended : goal.returns-in_err-put-clause-appended
+returns-in_err-put-clause-appended g c told =
+    let w = g.K.Sink.written c.args.out.now in
+    let start : List ℕ = codes "/" in
+    let name : List ℕ = c.args.name.now in
+    failed _ _ _ _ _ c.from_residual.ensures.1 (part_front w start name _ (c.put.ensures.part told))
+
+pub returns-clause-appended : goal.returns-clause-appended
+returns-clause-appended g c told =
+    let w = g.K.Sink.written c.args.out.now in
+    let start : List ℕ = codes "/" in
+    let name : List ℕ = c.args.name.now in
+    let told_1 = c.put.ensures.told ∙ told in
+    put_behind _ w start name _ _ (c.in_ok-put.ensures.appended told) (puts_same _ _ _ _ _ (c.as_bytes.ensures.value ∙ c.text.ensures.same) (puts _ _ _ _ (c.put-2.ensures.appended told_1) (c.put-2.ensures.part told_1)))
