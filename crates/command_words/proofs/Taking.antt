@@ -201,6 +201,21 @@ pub open_after : (words : List Word) (reader next : Reader) → IsOpen reader �
 open_after [] reader next was is = (let e : reader ≡ next = cc is in subst IsOpen e was)
 open_after (word ∷ words) reader next was is = option_and_then_some (λ n. take_words n words) (take_word reader word) next is (λ middle here rest. open_after words middle next (open_next reader middle word here) rest)
 
+-- a directory is awaited behind its short option
+pub awaits_option : (reader next : Reader) (word : Word) (side : Side) → take_word reader word ≡ Some next → next.awaits ≡ Some side → word ≡ short_option side
+awaits_option reader next word side is awaits = by reader.awaits is
+  where
+    none : (last : Chosen) → next ≡ ready last → ⊥
+    none last is_next = (let e : next.awaits ≡ None = ap (λ (r : Reader). r.awaits) is_next in cc (awaits, e))
+
+    by : (waits : Option Side) → take_by reader.chosen waits word ≡ Some next → word ≡ short_option side
+    by None taken = of (took reader.chosen word next taken)
+      where
+        of : Took reader.chosen word next → word ≡ short_option side
+        of (inl (other, is_short, free, is_next)) = (let e : next.awaits ≡ Some other = ap (λ (r : Reader). r.awaits) is_next in let same : other ≡ side = cc (awaits, e) in is_short ∙ ap short_option same)
+        of (inr (choice, spells, middle, chose, is_next)) = absurd (none middle is_next)
+    by (Some other) taken = let (dir, names, middle, chose, is_next) = took_dir reader.chosen other word next taken in absurd (none middle is_next)
+
 -- how the words may go on
 abbrev pub Ends : Reader → Type 0
 Ends reader = (more : List Word) × (last : Chosen) × (command : Command) × (take_words reader more ≡ Some (ready last)) × (command_of last ≡ Some command)

@@ -1,5 +1,5 @@
 -- How the words of an upgrade or a report are read one after another, for the contracts of this crate's own functions.
-use Rattle.std.specs.Prelude.{◌||◌, if◌then◌else◌, ◌==◌, nat_le, List, [], ◌∷◌, length, codes, bytes_eq, Option, Some, None, is_some}
+use Rattle.std.specs.Prelude.{◌||◌, if◌then◌else◌, ◌==◌, nat_le, List, [], ◌∷◌, ◌≡◌, ◌++◌, length, codes, bytes_eq, Option, Some, None, is_some}
 use Rattle.std.specs.Option.{option_and_then, option_map}
 use Rattle.fs_model.specs.Names.{Path}
 use Rattle.fs_model.specs.PathText.{path_in}
@@ -10,7 +10,7 @@ use Rattle.command_words.specs.declared.chosen.Chosen.{Chosen}
 use Rattle.command_words.specs.declared.chosen.Reader.{Reader}
 use Rattle.command_words.specs.declared.chosen.Flag.{Flag}
 use Rattle.command_words.specs.declared.chosen.Flag.TheVariants.{ChecksOnly, Carries, Reports}
-use Rattle.command_words.specs.Words.{Word, Directory, Says, choose}
+use Rattle.command_words.specs.Words.{Word, Directory, Says, choose, long_option, MayName}
 
 abbrev pub ready : Chosen → Reader
 ready chosen = record { chosen = chosen; awaits = None }
@@ -70,3 +70,12 @@ take_word reader word = take_by reader.chosen reader.awaits word
 abbrev pub take_words : Reader → List Word → Option Reader
 take_words reader [] = Some reader
 take_words reader (word ∷ words) = option_and_then (λ next. take_words next words) (take_word reader word)
+
+-- the word has the long option of a side, and behind it one that may name a directory
+abbrev pub HasLong : Word → Type 0
+HasLong word = (side : Side) × (rest : Word) × (word ≡ long_option side ++ rest) × MayName rest
+
+-- a word for which a reader may lack memory
+abbrev pub TakesMemory : Option Side → Word → Type 0
+TakesMemory (Some side) word = MayName word
+TakesMemory None word = HasLong word

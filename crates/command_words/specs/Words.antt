@@ -1,11 +1,11 @@
 -- The accepted command lines, and the position of a usage fault.
-use Rattle.std.specs.Prelude.{◌≡◌, ◌⊎◌, ◌+◌, ◌<◌, ◌≤◌, ℕ, Bool, true, false, ◌||◌, if◌then◌else◌, List, [], ◌∷◌, ◌++◌, length, take, map, codes, string_bytes, Option, Some, None, is_some}
+use Rattle.std.specs.Prelude.{◌≡◌, ◌⊎◌, ◌+◌, ◌<◌, ◌≤◌, ℕ, Bool, true, false, ◌||◌, if◌then◌else◌, List, [], ◌∷◌, ◌++◌, length, take, map, codes, slice_get, string_bytes, Option, Some, None, is_some}
 use Rattle.std.specs.Prelude.{String}
 use Rattle.std.specs.Option.{option_and_then, unwrap_or}
 use Rattle.std.specs.Fmt.{decimal}
 use Rattle.std.specs.Global.{Global}
 use Rattle.fs_model.specs.Names.{Path}
-use Rattle.fs_model.specs.PathText.{path_in}
+use Rattle.fs_model.specs.PathText.{path_in, begins_with_slash}
 use Rattle.control_file.specs.declared.modes.Mode.{Mode}
 use Rattle.control_file.specs.declared.modes.Mode.TheVariants.{Copy, Link}
 use Rattle.control_file.specs.declared.modes.Side.{Side}
@@ -119,3 +119,17 @@ pub record IsFaultAt (words : List Word) (position : ℕ) : Type 0 where
   pub within : position ≤ length words
   pub before : (n : ℕ) → n < position → Begins (take (n + 1) words)
   pub here : position < length words → Begins (take (position + 1) words) → ⊥
+
+-- ---- want of memory
+
+-- a word of at most 1,024 bytes that begins with `/`
+pub record MayName (word : Word) : Type 0 where
+  pub short : length word ≤ 1024
+  pub slash : begins_with_slash word ≡ true
+
+-- such a word stands behind the short option of a side, or in its long one
+abbrev pub AsksForDirectory : List Word → Type 0
+AsksForDirectory words =
+    (side : Side) × (word : Word) × MayName word × (position : ℕ)
+    × (((slice_get words position ≡ Some (short_option side)) × (slice_get words (position + 1) ≡ Some word))
+    ⊎ (slice_get words position ≡ Some (long_option side ++ word)))

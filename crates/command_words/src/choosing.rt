@@ -1,7 +1,7 @@
 // What the words of an upgrade or of a report choose.
-ghost use Rattle.std.specs.Prelude.{◌≡◌, is_some, IfOk, IfErr, codes};
-ghost use Rattle.command_words.specs.Words.{Directory, Says, no_choice, choose, command_of};
-ghost use Rattle.command_words.specs.Reading.{dir_of, ready, after, take_dir, await_dir, take_long, take_option, take_word};
+ghost use Rattle.std.specs.Prelude.{◌≡◌, is_some, IfOk, IfErr, OnErr, codes};
+ghost use Rattle.command_words.specs.Words.{Directory, Says, no_choice, choose, command_of, MayName};
+ghost use Rattle.command_words.specs.Reading.{dir_of, ready, after, take_dir, await_dir, take_long, take_option, take_word, HasLong, TakesMemory};
 
 use crate::chosen::{Chosen, Flag, Reader};
 use crate::command::{Command, WordsError};
@@ -107,6 +107,7 @@ fn take_dir(
 ) -> Result<Option<Reader>, WordsError>
     ensures taken { IfOk result (λ next. next ≡ take_dir chosen side word.now) }
     ensures lacks { IfErr result (λ e. e ≡ WordsError.OutOfMemory) }
+    ensures lacking { OnErr result (MayName word.now) }
 {
     match directory(alloc, word)? {
         Some(dir) => Ok(chosen.with_dir(side, dir).map(|next| Reader::ready(next))),
@@ -131,6 +132,7 @@ fn await_dir(chosen: Chosen, side: Side) -> Option<Reader>
 fn take_long(alloc: Global, chosen: Chosen, word: &str) -> Result<Option<Reader>, WordsError>
     ensures taken { IfOk result (λ next. next ≡ take_long chosen word.now (after (codes "--old-datadir=") word.now) (after (codes "--new-datadir=") word.now)) }
     ensures lacks { IfErr result (λ e. e ≡ WordsError.OutOfMemory) }
+    ensures lacking { OnErr result (HasLong word.now) }
 {
     if let Some(rest) = rest_after(word, "--old-datadir=") {
         return take_dir(alloc, chosen, Side::Old, rest);
@@ -148,6 +150,7 @@ fn take_long(alloc: Global, chosen: Chosen, word: &str) -> Result<Option<Reader>
 fn take_option(alloc: Global, chosen: Chosen, word: &str) -> Result<Option<Reader>, WordsError>
     ensures taken { IfOk result (λ next. next ≡ take_option chosen word.now) }
     ensures lacks { IfErr result (λ e. e ≡ WordsError.OutOfMemory) }
+    ensures lacking { OnErr result (HasLong word.now) }
 {
     if same_word(word, "-d") {
         return Ok(await_dir(chosen, Side::Old));
@@ -166,6 +169,7 @@ pub(crate) fn take_word(
 ) -> Result<Option<Reader>, WordsError>
     ensures taken { IfOk result (λ next. next ≡ take_word reader word.now) }
     ensures lacks { IfErr result (λ e. e ≡ WordsError.OutOfMemory) }
+    ensures lacking { OnErr result (TakesMemory reader.awaits word.now) }
 {
     match reader.awaits {
         Some(side) => take_dir(alloc, reader.chosen, side, word),

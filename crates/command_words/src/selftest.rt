@@ -51,6 +51,7 @@ pub(crate) fn read_selftest(words: &[String]) -> Result<Command, WordsError>
     requires { slice_get (texts words.now) 0 ≡ Some (codes "--selftest") }
     ensures accepted { IfOk result (λ command. Accepts (texts words.now) command) }
     ensures usage { (position : ℕ) → result ≡ Err (WordsError.Usage position) → IsFaultAt (texts words.now) position }
+    ensures no_memory { result ≢ Err WordsError.OutOfMemory }
 {
     let Some(word) = word_at(words, 1) else {
         return Err(WordsError::Usage(1));

@@ -1,7 +1,7 @@
 // Single words.
-ghost use Rattle.std.specs.Prelude.{◌≡◌, ◌≤◌, true, length, IfOk, IfErr, OnErr, bytes_eq};
+ghost use Rattle.std.specs.Prelude.{◌≡◌, IfOk, IfErr, OnErr, bytes_eq};
 ghost use Rattle.std.specs.Option.{option_copied};
-ghost use Rattle.fs_model.specs.PathText.{begins_with_slash};
+ghost use Rattle.command_words.specs.Words.{MayName};
 ghost use Rattle.command_words.specs.Reading.{after, dir_named, flag};
 
 use crate::chosen::Flag;
@@ -46,8 +46,7 @@ pub(crate) fn flag_of(word: &str) -> Option<Flag>
 pub(crate) fn directory(alloc: Global, word: &str) -> Result<Option<Path>, WordsError>
     ensures named { IfOk result (λ dir. dir ≡ dir_named word.now) }
     ensures usage { IfErr result (λ e. e ≡ WordsError.OutOfMemory) }
-    ensures short { OnErr result (length word.now ≤ 1024) }
-    ensures slash { OnErr result (begins_with_slash word.now ≡ true) }
+    ensures lacking { OnErr result (MayName word.now) }
 {
     if word.len() > 1024 {
         return Ok(None);

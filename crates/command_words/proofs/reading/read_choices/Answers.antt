@@ -1,9 +1,11 @@
-use Rattle.std.proofs.Common.{◌≡◌, ◌∙◌, length, Some, inl, sym, ap, subst, arith}
+use Rattle.std.proofs.Common.{◌≡◌, ◌∙◌, length, Some, inl, refl, sym, ap, subst, arith}
 use Rattle.std.specs.Prelude.{true, false, is_some, slice_get, string_bytes}
 use Rattle.std.proofs.lemmas.List.{length-map}
 use Rattle.command_words.specs.Words.{IsFaultAt, texts, command_of}
 use Rattle.command_words.specs.declared.chosen.Reader.{Reader}
 use Rattle.command_words.proofs.Faults.{awaits_none, fault_at, fault_at_end, taken_asks, word_at, taken_next, taken_whole}
+use Rattle.command_words.proofs.Lacking.{asks_for}
+use Rattle.command_words.proofs.Taking.{awaits_option}
 use Rattle.command_words.proofs.reading.read_choices.Goals as goal
 
 pub returns-in-None-clause-usage : goal.returns-in-None-clause-usage
@@ -13,11 +15,19 @@ returns-in-None-clause-usage c position is =
     subst (IsFaultAt (texts c.args.words.now)) same
     (fault_at (texts c.args.words.now) c.loop-position.position c.deref.result.now c.loop-position.reader c.requires at_n c.loop-position.invariant.taken (sym c.in_ok-next.ensures.taken ∙ c.in-None.is))
 
+pub returns-in_err-next-clause-lacking : goal.returns-in_err-next-clause-lacking
+returns-in_err-next-clause-lacking c is =
+    let at_n : slice_get (texts c.args.words.now) c.loop-position.position ≡ Some c.deref.result.now = word_at c.args.words.now c.loop-position.position c.index-words-position.result c.loop-position-test.true c.index-words-position.is ∙ ap (λ w. Some w) (sym c.deref.ensures) in
+    asks_for (texts c.args.words.now) c.loop-position.position c.deref.result.now c.loop-position.reader.awaits at_n c.loop-position.invariant.awaited c.in_err-next.ensures.lacking
+
 pub loop-position-preserved : goal.loop-position-preserved
 loop-position-preserved c = record {
   taken =
       let at_n : slice_get (texts c.args.words.now) c.loop-position.position ≡ Some c.deref.result.now = word_at c.args.words.now c.loop-position.position c.index-words-position.result c.loop-position-test.true c.index-words-position.is ∙ ap (λ w. Some w) (sym c.deref.ensures) in
       taken_next (texts c.args.words.now) c.loop-position.position c.deref.result.now c.loop-position.reader c.in-Some.next at_n c.loop-position.invariant.taken (sym c.in_ok-next.ensures.taken ∙ c.in-Some.is);
+  awaited = λ side awaits.
+      let at_n : slice_get (texts c.args.words.now) c.loop-position.position ≡ Some c.deref.result.now = word_at c.args.words.now c.loop-position.position c.index-words-position.result c.loop-position-test.true c.index-words-position.is ∙ ap (λ w. Some w) (sym c.deref.ensures) in
+      (c.loop-position.position, refl, at_n ∙ ap (λ w. Some w) (awaits_option c.loop-position.reader c.in-Some.next c.deref.result.now side (sym c.in_ok-next.ensures.taken ∙ c.in-Some.is) awaits));
 }
 
 pub returns-then-is_some-clause-usage : goal.returns-then-is_some-clause-usage
