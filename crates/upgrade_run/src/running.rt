@@ -1,6 +1,7 @@
 // From the words of a command line to the printed answer.
 ghost use Rattle.std.specs.Prelude.{◌≡◌, ◌⊎◌, ◌++◌, ℕ, Bool, true};
 ghost use Rattle.fs_model.specs.Crash.{Settled};
+ghost use Rattle.fs_model.specs.Output.{IsPartPut};
 ghost use Rattle.fs_model.specs.Trail.{Since, Unchanged, Rose, HasCause};
 ghost use Rattle.control_file.specs.declared.job.Job.{Job as AJob};
 ghost use Rattle.control_file.specs.declared.modes.Mode.{Mode as AMode};
@@ -107,7 +108,8 @@ fn answer<F: Fs, S: Server<F>>(
 /// that may meet it, want of memory while files are carried was the file system's, and `Done` comes only without `--check`,
 /// `Checked` only with it. Where neither the file system nor the server failed, the answer is the first condition that held, or
 /// `Done` or `Checked`, or a report's verdict, or that of a self-test, but for want of memory. No failure is kept quiet, and
-/// where the file system doesn't fail none is told. The printed bytes are the answer's lines.
+/// where the file system doesn't fail none is told. The printed bytes are the answer's lines, and a first part of them where the
+/// sink failed or lacked memory.
 pub fn run<F: Fs, S: Server<F>, K: Sink>(
     alloc: Global,
     words: &[String],
@@ -134,6 +136,7 @@ pub fn run<F: Fs, S: Server<F>, K: Sink>(
     ensures sound { F.firm fs.old ≡ true → IsFsFault result.answer → ⊥ }
     ensures sink_told { K.told out.new ≡ K.told out.old }
     ensures whole { K.told out.old ≡ true → result.printed ≡ Printed.Whole → K.written out.new ≡ K.written out.old ++ lines_of result.answer }
+    ensures begun { K.told out.old ≡ true → IsPartPut (K.written out.old) (lines_of result.answer) (K.written out.new) }
     ensures printed { PrintedRose result.printed (K.counts out.old) (K.counts out.new) }
 {
     let answer = answer(alloc, words, fs, server);
