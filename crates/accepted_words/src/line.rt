@@ -1,6 +1,6 @@
 // Reading the words of a command line.
 ghost use Rattle.std.specs.Prelude.{◌≡◌, ℕ, Err, IfOk};
-ghost use Rattle.command_words.specs.Words.{texts};
+ghost use Rattle.command_words.specs.Words.{AsksForDirectory, texts};
 ghost use Rattle.accepted_words.specs.Accepted.{Asks, IsFaultAt};
 
 use command_words::{Command, WordsError, read_words};
@@ -21,10 +21,11 @@ pub enum Line {
 
 /// Reads the words of a command line, without the program's name: those of an upgrade, of a report or of a self-test, as
 /// `read_words` of `command_words` has them. Any other line is a fault at the least position from which on no accepted line
-/// goes.
+/// goes. Memory lacks only for a directory's word.
 pub fn read_line(alloc: Global, words: &[String]) -> Result<Line, WordsError>
     ensures accepted { IfOk result (λ line. Asks (texts words.now) line) }
     ensures usage { (position : ℕ) → result ≡ Err (WordsError.Usage position) → IsFaultAt (texts words.now) position }
+    ensures lacking { result ≡ Err WordsError.OutOfMemory → AsksForDirectory (texts words.now) }
 {
     match read_words(alloc, words) {
         Ok(Command::Upgrade(job, check)) => Ok(Line::Upgrade(job, check)),
