@@ -8,7 +8,7 @@ use Rattle.dump_grammar.specs.declared.error.TextError.{TextError}
 use Rattle.dump_grammar.specs.Spelling.{Word}
 use Rattle.dump_read.specs.Form.{is_end, form}
 use Rattle.dump_read.specs.Reading.{◌>>=◌, Front, with_tokens, gathered, gather, placed_as, placed_of, statement_at}
-use Rattle.dump_read.specs.Ahead.{words_on, words_ahead, first_line, IsExtent}
+use Rattle.dump_read.specs.Ahead.{words_on, words_ahead, first_line, IsExtent, StandsNext}
 
 abbrev Next : Type 0
 Next = Result (Option (PlacedToken × Place)) LexError
@@ -94,3 +94,6 @@ none_is p after count line x e = ap (λ (r : Result Front TextError). r >>= plac
 pub refused_is : (p : Place) (e : TextError) → gather (suc (length (rest_of p))) p ≡ Err e → statement_at p ≡ Err e
 unfolding statement_at
 refused_is p e g = ap (λ (r : Result Front TextError). r >>= placed_of) g
+
+pub stands_next : (p after : Place) (count line : ℕ) → IsExtent (gather (suc (length (rest_of p))) p) count line after → 0 < count → StandsNext p
+stands_next p after count line x lt = ((x.0, after), x.1, omega (arith, lt, x.2))

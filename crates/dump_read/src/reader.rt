@@ -4,7 +4,7 @@ ghost use Rattle.std.specs.Prelude.{◌≡◌, ◌≢◌, ◌<◌, ℕ, suc, len
 ghost use Rattle.dump_lex.specs.Place.{Place, rest_of};
 ghost use Rattle.dump_grammar.specs.declared.error.TextCause.TheVariants.{OutOfMemory};
 ghost use Rattle.dump_grammar.specs.Spelling.{IsStatement, word_of};
-ghost use Rattle.dump_read.specs.Ahead.{IsExtent};
+ghost use Rattle.dump_read.specs.Ahead.{IsExtent, StandsNext};
 ghost use Rattle.dump_read.specs.Form.{is_end, form};
 ghost use Rattle.dump_read.specs.Reading.{lex_error, gather, placed_as, statement_at};
 ghost use Rattle.dump_read.specs.Placed.{placed};
@@ -93,13 +93,15 @@ fn statement_in(alloc: Global, line: u64, words: Words<'_>) -> Result<Located, T
 ///
 /// Its tokens are read twice, to its `;` and then as a statement, and none is kept. Of one statement a lexical error
 /// comes first, then `UnknownStatement` at the line of its first token. It comes too where the text ends before the `;`.
-/// Where memory lacks, the line is 0. Where the lexer stands after an error is left open.
+/// Where memory lacks, the line is 0; none is taken before all of the statement's tokens were read. Where the lexer stands
+/// after an error is left open.
 pub fn read_located(alloc: Global, lexer: &mut Lexer<'_>) -> Result<Option<Located>, TextError>
     // The statement that stands next, and the lexer is behind it.
     ensures read { IfOk result (λ o. statement_at lexer.old ≡ Ok (option_map (λ x. placed x lexer.new) o)) }
     // Tokens that can't be read, or that are no statement.
     ensures refused { IfErr result (λ e. e.cause ≢ OutOfMemory → statement_at lexer.old ≡ Err e) }
-    ensures lacking { IfErr result (λ e. e.cause ≡ OutOfMemory → e.line ≡ 0) }
+    // Memory is taken only for tokens that stand there, all of them.
+    ensures lacking { IfErr result (λ e. e.cause ≡ OutOfMemory → (e.line ≡ 0) × StandsNext lexer.old) }
     ensures onward { IfOk result (λ o. IfSome o (λ _. length (rest_of lexer.new) < length (rest_of lexer.old))) }
     // Its names are names, and its numbers have their range.
     ensures of_grammar { IfOk result (λ o. IfSome o (λ x. IsStatement x.statement)) }
@@ -117,7 +119,7 @@ pub fn read_located(alloc: Global, lexer: &mut Lexer<'_>) -> Result<Option<Locat
 pub fn read_statement(alloc: Global, lexer: &mut Lexer<'_>) -> Result<Option<Statement>, TextError>
     ensures read { IfOk result (λ o. (line : ℕ) × (statement_at lexer.old ≡ Ok (option_map (λ s. record { line = line; statement = s; after = lexer.new }) o))) }
     ensures refused { IfErr result (λ e. e.cause ≢ OutOfMemory → statement_at lexer.old ≡ Err e) }
-    ensures lacking { IfErr result (λ e. e.cause ≡ OutOfMemory → e.line ≡ 0) }
+    ensures lacking { IfErr result (λ e. e.cause ≡ OutOfMemory → (e.line ≡ 0) × StandsNext lexer.old) }
     ensures onward { IfOk result (λ o. IfSome o (λ _. length (rest_of lexer.new) < length (rest_of lexer.old))) }
     ensures of_grammar { IfOk result (λ o. IfSome o IsStatement) }
 {
