@@ -5,7 +5,7 @@ ghost use Rattle.fs_model.specs.Output.{IsPartPut};
 ghost use Rattle.fs_model.specs.Trail.{Since, Unchanged, Rose, HasCause};
 ghost use Rattle.control_file.specs.declared.job.Job.{Job as AJob};
 ghost use Rattle.control_file.specs.declared.modes.Mode.{Mode as AMode};
-ghost use Rattle.command_words.specs.Words.{texts};
+ghost use Rattle.command_words.specs.Words.{AsksForDirectory, texts};
 ghost use Rattle.phase_frames.specs.Framed.{IsFramed};
 ghost use Rattle.accepted_words.specs.declared.line.Line.{Line as ALine};
 ghost use Rattle.accepted_words.specs.declared.line.Line.TheVariants as asked;
@@ -65,6 +65,7 @@ fn answer<F: Fs, S: Server<F>>(
     ensures firm { F.firm fs.new ≡ F.firm fs.old }
     ensures usage { (position : ℕ) → result ≡ Answer.Usage position → IsFaultAt (texts words.now) position }
     ensures asked { IsUsage result ⊎ (result ≡ Answer.NoMemory PhaseName.Words) ⊎ ((line : ALine) × Asks (texts words.now) line) }
+    ensures lacking { result ≡ Answer.NoMemory PhaseName.Words → AsksForDirectory (texts words.now) }
     ensures unchanged { F.told fs.old ≡ true → LeavesAll result → Unchanged (F.trail fs.old) (F.trail fs.new) }
     ensures untouched { IsUsage result ⊎ (result ≡ Answer.NoMemory PhaseName.Words) → (F.trail fs.new ≡ F.trail fs.old) × (F.counts fs.new ≡ F.counts fs.old) × (S.counts server.new ≡ S.counts server.old) }
     ensures means { F.told fs.old ≡ true → (line : ALine) → Asks (texts words.now) line → Means S.catalog_of (F.trail fs.old).present line result }
@@ -93,7 +94,7 @@ fn answer<F: Fs, S: Server<F>>(
 /// counts the rows of the new one.
 ///
 /// Its contract, in the order of its clauses. A usage fault is at the first word that begins no accepted line, and else a line was
-/// read. After the answers that change nothing no state was changed, and before the words are read no call was made. `Refused`
+/// read; memory lacks before that only where a word asks for a directory. After the answers that change nothing no state was changed, and before the words are read no call was made. `Refused`
 /// has the first condition that held in the state at the beginning; a phase behind the checks is told only where none held;
 /// `Moved` never comes where the file system tells its states; a report has the verdict of that state.
 /// In every state of an upgrade, also where not all was on the disk at the beginning, names and bytes at no new place are as at
@@ -121,6 +122,7 @@ pub fn run<F: Fs, S: Server<F>, K: Sink>(
     ensures firm { F.firm fs.new ≡ F.firm fs.old }
     ensures usage { (position : ℕ) → result.answer ≡ Answer.Usage position → IsFaultAt (texts words.now) position }
     ensures asked { IsUsage result.answer ⊎ (result.answer ≡ Answer.NoMemory PhaseName.Words) ⊎ ((line : ALine) × Asks (texts words.now) line) }
+    ensures lacking { result.answer ≡ Answer.NoMemory PhaseName.Words → AsksForDirectory (texts words.now) }
     ensures unchanged { F.told fs.old ≡ true → LeavesAll result.answer → Unchanged (F.trail fs.old) (F.trail fs.new) }
     ensures untouched { IsUsage result.answer ⊎ (result.answer ≡ Answer.NoMemory PhaseName.Words) → (F.trail fs.new ≡ F.trail fs.old) × (F.counts fs.new ≡ F.counts fs.old) × (S.counts server.new ≡ S.counts server.old) }
     ensures means { F.told fs.old ≡ true → (line : ALine) → Asks (texts words.now) line → Means S.catalog_of (F.trail fs.old).present line result.answer }
