@@ -3,7 +3,7 @@
 # relations, and one whose table has a full segment of 1 GiB and a second of 16 MiB. Each ratio is of times of one run of this
 # script, the best of three each, with files that were just read.
 # bench.sh [FOLDER [RELATIONS]]: a folder that doesn't stand yet, on the disk that is measured; it is removed at the end.
-# ./sample.sh --proved builds the two programs.
+# ./sample.sh --proved builds the program that is measured; make_pair, which makes the pairs, is built here once.
 # bench.sh catalog: measures instead how catalog texts that it makes itself are loaded and printed, by the proved program
 # load_text, which it builds once.
 set -u
@@ -12,10 +12,12 @@ top=$(cd "$(dirname "$0")" && pwd)
 folder=${1:-$(mktemp -u -d "${TMPDIR:-/tmp}/upgrade_bench.XXXXXX")}
 relations=${2:-1000}
 upgrade=$top/crates/upgrade_cli/out/upgrade_cli
-make=$top/crates/make_sample/out/make_sample
+make=$top/crates/make_pair/out/make_pair
 segment=$((131072 * 8192))
 
-[ -x "$upgrade" ] && [ -x "$make" ] || { echo "no proved programs: run ./sample.sh --proved"; exit 1; }
+[ -x "$upgrade" ] || { echo "no proved program: run ./sample.sh --proved"; exit 1; }
+[ -x "$make" ] || (cd "$top/crates/make_pair" && rt run > /dev/null)
+[ -x "$make" ] || exit 1
 mkdir "$folder" || exit 1
 trap 'rm -rf "$folder"' EXIT
 

@@ -1,10 +1,9 @@
-//! Makes a pair of clusters, `old` and `new`, in a directory that its first word names and that doesn't stand yet: the small
-//! pair, or that of so many tables as its second word says, at most 200. Ends with status 1 where it could not.
+//! Makes the small pair of clusters, `old` and `new`, in a directory that its word names and that doesn't stand yet. Ends with
+//! status 1 where it could not.
 #![tactic(auto)]
 
 use fs_model::{Fs, Path};
 use fs_real::RealFs;
-use pair_trees::put_pair;
 use sample_clusters::make_pair;
 use std::env;
 use std::process::ExitCode;
@@ -17,15 +16,11 @@ fn make_small<F: Fs>(fs: &mut F, dir: &Path) -> Option<()> {
 
 fn make(rt: &HostRuntime) -> Option<()> {
     let alloc = rt.alloc();
-    let mut words = env::args(rt).ok()?;
-    let word = words.nth(1)?;
+    let word = env::args(rt).ok()?.nth(1)?;
     let dir = Path::parse(alloc, word.as_str()).ok()?;
     let mut fs = RealFs::new(rt, alloc);
     fs.make_dir(&dir).ok()?;
-    match words.next() {
-        None => make_small(&mut fs, &dir),
-        Some(tables) => put_pair(alloc, &mut fs, &dir, tables.parse::<u64>().ok()?),
-    }
+    make_small(&mut fs, &dir)
 }
 
 fn main(rt: HostRuntime) -> ExitCode {
