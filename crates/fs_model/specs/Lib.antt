@@ -1,3 +1,4 @@
+pub mod NameTexts
 pub mod Names
 pub mod PathText
 pub mod PathLaws

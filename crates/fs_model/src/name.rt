@@ -7,27 +7,47 @@ ghost use Rattle.std.specs.Cmp.Lexicographic.{slice_cmp};
 ghost use Rattle.std.specs.Cmp.Rules.{comparing};
 ghost use Rattle.std.specs.Cmp.{partial_order_from_own_ties};
 ghost use Rattle.fs_model.specs.Names.{is_name, is_name_byte};
+ghost use Rattle.fs_model.specs.NameTexts.{bytes_of};
 
 use crate::PathError;
+use arrayvec::ArrayString;
 use std::alloc::{AllocError, Global};
 use std::cmp::Ordering;
 use std::marker::Model;
 
+// The text of a name. One of at most 16 bytes, which is nearly every name of a cluster, lies in the value itself.
+#[derive(Drop)]
+enum NameText {
+    Short(ArrayString<16>),
+    Long(String),
+}
+
+// The text in place where it is short enough, otherwise on the heap.
+fn name_text(alloc: Global, text: &str) -> Result<NameText, AllocError>
+    ensures { IfOk result (λ t. bytes_of t ≡ text.now) }
+{
+    match ArrayString::from(text) {
+        Ok(short) => Ok(NameText::Short(short)),
+        Err(_) => Ok(NameText::Long(String::from_str(alloc, text)?)),
+    }
+}
+
 /// A name in a directory: UTF-8 text of 1 to 255 bytes without `/` and without a zero byte that is neither `.` nor `..`.
 #[derive(Drop)]
 pub struct Name {
-    text: String,
+    text: NameText,
 }
 
 impl Model for Name {
-    ghost use Rattle.std.specs.Prelude.{◌≡◌, true, List, ℕ, string_bytes};
+    ghost use Rattle.std.specs.Prelude.{◌≡◌, true, List, ℕ};
     ghost use Rattle.fs_model.specs.Names.{is_name};
+    ghost use Rattle.fs_model.specs.NameTexts.{bytes_of};
 
     ghost Value = { List ℕ };
 
-    ghost view = { λ a. string_bytes a.text };
+    ghost view = { λ a. bytes_of a.text };
 
-    ghost invariant = { λ a. is_name (string_bytes a.text) ≡ true };
+    ghost invariant = { λ a. is_name (bytes_of a.text) ≡ true };
 }
 
 // Whether each byte is one that a name may have.
@@ -67,7 +87,7 @@ impl Name {
             return Err(PathError::Bad);
         }
         Ok(Name {
-            text: String::from_str(alloc, text)?,
+            text: name_text(alloc, text)?,
         })
     }
 
@@ -76,7 +96,10 @@ impl Name {
         ensures same { result.now ≡ self.now }
         ensures valid { is_name self.now ≡ true }
     {
-        self.text.as_str()
+        match &self.text {
+            NameText::Short(short) => short.as_str(),
+            NameText::Long(long) => long.as_str(),
+        }
     }
 }
 
@@ -84,9 +107,11 @@ impl Clone for Name {
     ghost is_clone = { λ a b. b ≡ a };
 
     fn clone(&self) -> Result<Name, AllocError> {
-        Ok(Name {
-            text: self.text.clone()?,
-        })
+        let text = match &self.text {
+            NameText::Short(short) => NameText::Short(*short),
+            NameText::Long(long) => NameText::Long(long.clone()?),
+        };
+        Ok(Name { text })
     }
 }
 
@@ -114,7 +139,7 @@ impl Ord for Name {
     ghost matches_eq = { Prim.search (comparing, rules) };
 
     fn cmp(&self, other: &Name) -> Ordering {
-        self.text.as_bytes().cmp(other.text.as_bytes())
+        self.text().as_bytes().cmp(other.text().as_bytes())
     }
 }
 
