@@ -2,14 +2,20 @@
 //! the text is refused it prints the line and the cause, and ends with status 1.
 #![tactic(auto)]
 
+use catalog::Catalog;
 use dump_text::{TextError, load, print};
 use std::alloc::Global;
 use std::env;
 use std::io::{self, Write};
 use std::process::ExitCode;
 
-fn canonical(alloc: Global, text: &[u8]) -> Result<Vec<u8>, TextError> {
-    print(alloc, &load(alloc, text)?)
+// The text goes as soon as its catalog stands.
+fn catalog(alloc: Global, text: String) -> Result<Catalog, TextError> {
+    load(alloc, text.as_bytes())
+}
+
+fn canonical(alloc: Global, text: String) -> Result<Vec<u8>, TextError> {
+    print(alloc, &catalog(alloc, text)?)
 }
 
 fn is_quiet(rt: &HostRuntime) -> io::Result<bool> {
@@ -19,7 +25,7 @@ fn is_quiet(rt: &HostRuntime) -> io::Result<bool> {
 fn main(rt: HostRuntime) -> io::Result<ExitCode> {
     let text = io::read_to_string(rt.alloc(), rt.reader())?;
     let quiet = is_quiet(&rt)?;
-    match canonical(rt.alloc(), text.as_bytes()) {
+    match canonical(rt.alloc(), text) {
         Ok(_) if quiet => Ok(ExitCode::SUCCESS),
         Ok(canonical) => {
             io::writer(&rt).write_all(&canonical)?;
