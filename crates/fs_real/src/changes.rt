@@ -82,10 +82,11 @@ impl<'a, R: Files> Disk<'a, R> {
         }
     }
 
+    // The system itself says that something stands at the new name, and says so before it says that a link would cross
+    // devices.
     pub(crate) fn link(&mut self, from: &Path, to: &Path) -> Result<(), FsError> {
         let (source, target) = self.places(from, to)?;
         self.expect_kind(&source, Kind::File, FsError::WrongKind)?;
-        self.expect_nothing(&target)?;
         fs::hard_link(self.rt, source.text(), target.text()).map_err(named)
     }
 

@@ -59,6 +59,9 @@ impl<F: OpenFile + Read + Seek + Write> Kept<F> {
 
     // Adds zeros up to this size, if it is smaller.
     fn reach(&self, size: u64) -> Result<(), FsError> {
+        if size == 0 {
+            return Ok(());
+        }
         let found = self.file.metadata().map_err(named)?;
         if found.len() >= size {
             return Ok(());

@@ -156,6 +156,7 @@ pub static CASES: [Case; 9] = [
         calls: &[
             Row("/f", Call::Write(9, ""), "done"),
             Row("/f", Call::Write(3, ""), "done"),
+            Row("/f", Call::Write(0, ""), "done"),
             Row("/f", Call::Write(12, ""), "Failed"),
         ],
         system: &[
@@ -262,10 +263,9 @@ pub static CASES: [Case; 9] = [
         ],
         system: &[
             ("look at /f", Reply::File(1)),
-            ("look at /g", Reply::Fails(ErrorKind::NotFound)),
             ("link /f to /g", Reply::Done),
             ("look at /f", Reply::File(1)),
-            ("look at /h", Reply::Link),
+            ("link /f to /h", Reply::Fails(ErrorKind::AlreadyExists)),
             ("look at /d", Reply::Dir),
             ("look at /f", Reply::File(1)),
             ("look at /h", Reply::File(1)),

@@ -129,7 +129,6 @@ pub static FAILURES: [Case; 2] = [
                 Reply::Fails(ErrorKind::DirectoryNotEmpty),
             ),
             ("look at /f", Reply::File(1)),
-            ("look at /g", Reply::Fails(ErrorKind::NotFound)),
             ("link /f to /g", Reply::Fails(ErrorKind::CrossesDevices)),
             ("look at /f", Reply::File(1)),
             ("look at /g", Reply::Fails(ErrorKind::NotFound)),
