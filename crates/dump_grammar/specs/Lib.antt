@@ -1,3 +1,4 @@
+pub mod Packed
 pub mod Pieces
 pub mod Spelling
 pub mod Canonical

@@ -4,12 +4,14 @@
 //! The table of the grammar is `specs/Pieces.antt`. What reads and what writes statements is held against it.
 #![tactic(auto)]
 
+mod column_texts;
 mod columns;
 mod error;
 mod statement;
 mod words;
 
-pub use columns::{ColumnText, ColumnTexts, NamedKind};
+pub use column_texts::ColumnTexts;
+pub use columns::{ColumnText, NamedKind};
 pub use error::{TextCause, TextError};
 pub use statement::{NextKind, Statement};
 pub use words::{align_word, flag_word, kind_word, type_word};

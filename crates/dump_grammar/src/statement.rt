@@ -1,4 +1,4 @@
-use crate::columns::ColumnTexts;
+use crate::column_texts::ColumnTexts;
 use catalog::Keys;
 use fs_model::{Path, Text};
 

@@ -87,28 +87,27 @@ fn column(alloc: Global, words: &mut Words<'_>) -> Result<ColumnText, ReadError>
     }
 }
 
-// The columns that follow, each behind a comma.
+// The columns with those that follow, each behind a comma.
 fn more_columns(
     alloc: Global,
     words: &mut Words<'_>,
-    columns: &mut Vec<ColumnText>,
-) -> Result<(), ReadError>
-    ensures { Answers (λ _. (columns.new.items, words.new)) result (with_items columns.old.items (more_at column_at (suc (length words.old)) words.old)) }
+    first: ColumnTexts,
+) -> Result<ColumnTexts, ReadError>
+    ensures { Answers (λ v. (v, words.new)) result (with_items first (more_at column_at (suc (length words.old)) words.old)) }
 {
+    let mut columns = first;
     'columns: while words.takes_mark(b',') {
-        columns.push(column(alloc, words)?)?;
+        columns = columns.with(column(alloc, words)?)?;
     }
-    Ok(())
+    Ok(columns)
 }
 
 #[tactic(auto, unfolding(crate::specs::Form::items_at))]
-fn columns(alloc: Global, words: &mut Words<'_>) -> Result<Vec<ColumnText>, ReadError>
-    ensures { Answers (λ v. (v.items, words.new)) result (items_at column_at words.old) }
+fn columns(alloc: Global, words: &mut Words<'_>) -> Result<ColumnTexts, ReadError>
+    ensures { Answers (λ v. (v, words.new)) result (items_at column_at words.old) }
 {
-    let mut columns = Vec::new(alloc);
-    columns.push(column(alloc, words)?)?;
-    more_columns(alloc, words, &mut columns)?;
-    Ok(columns)
+    let first = ColumnTexts::new(alloc).with(column(alloc, words)?)?;
+    more_columns(alloc, words, first)
 }
 
 #[tactic(auto, unfolding(crate::specs::Form::closed_at))]
@@ -117,7 +116,7 @@ fn closed_columns(alloc: Global, words: &mut Words<'_>) -> Result<ColumnTexts, R
 {
     let columns = columns(alloc, words)?;
     words.mark(b')')?;
-    Ok(ColumnTexts::new(columns))
+    Ok(columns)
 }
 
 #[tactic(auto, unfolding(crate::specs::Form::columns_in_at))]
@@ -125,7 +124,7 @@ fn columns_inside(alloc: Global, words: &mut Words<'_>) -> Result<ColumnTexts, R
     ensures { Answers (λ v. (v, words.new)) result (columns_in_at words.old) }
 {
     if words.takes_mark(b')') {
-        Ok(ColumnTexts::new(Vec::new(alloc)))
+        Ok(ColumnTexts::new(alloc))
     } else {
         closed_columns(alloc, words)
     }

@@ -1,6 +1,8 @@
 // The columns of a table, with the enums that they name.
-ghost use Rattle.std.specs.Prelude.{◌≡◌, option_map, IfOk};
+ghost use Rattle.std.specs.Prelude.{◌≡◌, List, [], ◌∷◌, ◌++◌, option_map, IfOk, OnOk};
+ghost use Rattle.catalog.specs.declared.relations.Column.{Column};
 ghost use Rattle.dump_rules.specs.Rules.{kind_of, column_of, columns_of};
+ghost use Rattle.dump_rules.specs.Kept.{kept};
 
 use crate::named::enum_oid;
 use catalog::{Column, ColumnKind, Columns, Database};
@@ -36,19 +38,33 @@ fn column_of(database: &Database, column: ColumnText) -> Option<Column>
     }
 }
 
-// The columns, or `None` where the enum of one isn't there.
-pub(crate) fn columns_of(
+// As many columns are kept as show that a table has too many of them (`MaxHeapAttributeNumber` of
+// `access/htup_details.h` is 1,600), and no more: a statement may have millions.
+const KEPT: usize = 1_601;
+
+// Adds a column, unless enough are there.
+fn keep(columns: &mut Vec<Column>, column: Column) -> Result<(), AllocError>
+    ensures { OnOk result ((all : List Column) → columns.old.items ≡ kept all → columns.new.items ≡ kept (all ++ column ∷ [])) }
+{
+    if columns.len() < KEPT {
+        columns.push(column)?;
+    }
+    Ok(())
+}
+
+// The first columns, or `None` where the enum of any of them all isn't there.
+pub(crate) fn first_columns(
     alloc: Global,
     database: &Database,
-    texts: ColumnTexts,
+    texts: &ColumnTexts,
 ) -> Result<Option<Columns>, AllocError>
-    ensures { IfOk result (λ o. o ≡ columns_of database.now texts) }
+    ensures { IfOk result (λ o. o ≡ option_map kept (columns_of database.now texts.now)) }
 {
     let mut columns = Vec::new(alloc);
-    for text in texts.into_vec() {
-        match column_of(database, text) {
+    for index in 0..texts.len() {
+        match column_of(database, texts.column(alloc, index)?) {
             None => return Ok(None),
-            Some(column) => columns.push(column)?,
+            Some(column) => keep(&mut columns, column)?,
         }
     }
     Ok(Some(Columns::new(columns)))

@@ -10,7 +10,7 @@ ghost use Rattle.dump_rules.specs.Rules.{found, role_oid, tablespace_oid, column
 ghost use Rattle.dump_rules.specs.Causes.{state_of};
 ghost use Rattle.dump_rules.specs.Made.{table_made};
 
-use crate::columns::columns_of;
+use crate::columns::first_columns;
 use crate::named::{connected_database, role_oid, tablespace_oid};
 use crate::numbers::{Numbers, Session};
 use crate::sessions::cause_of;
@@ -79,12 +79,12 @@ fn add_table(
     name: Text,
     owner: &Text,
     tablespace: &Text,
-    columns: ColumnTexts,
+    columns: &ColumnTexts,
 ) -> Result<(), CatalogError>
     requires name { is_name name ≡ true }
-    requires columns { list_all is_column columns ≡ true }
-    ensures ok { OnOk result (table_made catalog.old connected (record { row_type = taken.row_type; oid = taken.oid; file = taken.file; toast = taken.toast }) schema name owner.now tablespace.now columns ≡ Ok catalog.new) }
-    ensures refused { IfErr result (λ e. e ≢ OutOfMemory → table_made catalog.old connected (record { row_type = taken.row_type; oid = taken.oid; file = taken.file; toast = taken.toast }) schema name owner.now tablespace.now columns ≡ Err e) }
+    requires columns { list_all is_column columns.now ≡ true }
+    ensures ok { OnOk result (table_made catalog.old connected (record { row_type = taken.row_type; oid = taken.oid; file = taken.file; toast = taken.toast }) schema name owner.now tablespace.now columns.now ≡ Ok catalog.new) }
+    ensures refused { IfErr result (λ e. e ≢ OutOfMemory → table_made catalog.old connected (record { row_type = taken.row_type; oid = taken.oid; file = taken.file; toast = taken.toast }) schema name owner.now tablespace.now columns.now ≡ Err e) }
     ensures unchanged { OnErr result (catalog.new ≡ catalog.old) }
 {
     let found = connected_database(catalog, connected);
@@ -92,7 +92,7 @@ fn add_table(
     let spaced = tablespace_oid(catalog, tablespace);
     match (found, owned, spaced) {
         (Some(database), Some(owner), Some(tablespace)) => {
-            match columns_of(alloc, database, columns)? {
+            match first_columns(alloc, database, columns)? {
                 None => Err(CatalogError::NoSuch),
                 Some(columns) => {
                     let database = database.oid;
@@ -160,7 +160,7 @@ pub(crate) fn create_table(
         None => Err(TextCause::MissingOid),
         Some(taken) => {
             match add_table(
-                alloc, catalog, connected, taken, schema, name, owner, tablespace, columns,
+                alloc, catalog, connected, taken, schema, name, owner, tablespace, &columns,
             ) {
                 Err(error) => Err(cause_of(error)),
                 Ok(()) => {

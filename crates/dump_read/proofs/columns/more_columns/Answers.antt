@@ -9,7 +9,7 @@ pub returns-in_err-column : goal.returns-in_err-column
 returns-in_err-column c =
     let i = c.columns.invariant in
     let p = err_from_is_err_and c.from_residual.result c.from_residual.ensures.1 in
-    rw (p.1, p.2) (λ unknown. more_refused column_at i.0 c.columns.words c.takes_mark.new.self c.columns.columns.items _ i.1 c.columns-test.ensures (c.in_err-column.ensures unknown) i.2)
+    rw (p.1, p.2) (λ unknown. more_refused column_at i.0 c.columns.words c.takes_mark.new.self c.columns.columns _ i.1 c.columns-test.ensures (c.in_err-column.ensures unknown) i.2)
 
 pub columns-smaller : goal.columns-smaller
 columns-smaller c =
@@ -21,9 +21,9 @@ pub columns-preserved : goal.columns-preserved
 columns-preserved c =
     let i = c.columns.invariant in
     let shorter : length c.column.new.words ≤ length c.takes_mark.new.self = omega (arith, (column_item.back c.takes_mark.new.self c.column.new.words _ c.in_ok-column.ensures).1.count) in
-    rw c.in_ok-push.ensures.items (more_on column_at i.0 c.columns.words c.takes_mark.new.self c.column.new.words c.in_ok-column.field-0 c.columns.columns.items _ i.1 c.columns-test.ensures c.in_ok-column.ensures shorter i.2)
+    rw c.in_ok-columns.ensures (more_on column_at i.0 c.columns.words c.takes_mark.new.self c.column.new.words c.in_ok-column.field-0 c.columns.columns _ i.1 c.columns-test.ensures c.in_ok-column.ensures shorter i.2)
 
 pub returns : goal.returns
 returns c =
     let i = c.columns.invariant in
-    rw c.columns-test.ensures.1 (more_none column_at i.0 c.columns.words c.columns.columns.items _ i.1 c.columns-test.ensures.0 i.2)
+    rw c.columns-test.ensures.1 (more_none column_at i.0 c.columns.words c.columns.columns _ i.1 c.columns-test.ensures.0 i.2)
