@@ -58,6 +58,11 @@ columns() {
   awk -v most="$1" 'BEGIN { for (n = 0; bytes < most; n++) { column = "c" n " oid,"; printf "%s", column; bytes += length(column) } }'
   printf 'last oid);'
 }
+short_columns() {
+  printf '%sCREATE TABLE public.t OWNER postgres TABLESPACE pg_default (' "$start"
+  repeated "$(($1 / 6 * 6))" 'a oid,'
+  printf 'last oid);'
+}
 keys() {
   printf '%sCREATE TABLE public.t OWNER postgres TABLESPACE pg_default (id int4);CREATE INDEX i ON public.t TABLESPACE pg_default (' "$start"
   repeated "$1" '1,'
@@ -66,6 +71,11 @@ keys() {
 location() {
   printf "%sCREATE TABLESPACE t OWNER postgres LOCATION '" "$start"
   repeated "$1" '/name'
+  printf "';"
+}
+short_names() {
+  printf "%sCREATE TABLESPACE t OWNER postgres LOCATION '" "$start"
+  repeated "$1" '/a'
   printf "';"
 }
 parentheses() {
@@ -105,6 +115,8 @@ rows 'tables with toast tables and two indexes' 5 tables 5000 20000 33000
 rows 'tables without columns' 1 bare_tables 5000 20000
 rows 'schemas with the same two names' 2 schemas 1000 4000
 rows 'bytes of columns' 0 columns $((16 << 20)) $((64 << 20))
+rows 'bytes of the shortest columns' 0 short_columns $((16 << 20)) $((64 << 20))
 rows 'bytes of keys' 0 keys $((16 << 20)) $((64 << 20))
 rows 'bytes of a location' 0 location $((16 << 20)) $((64 << 20))
+rows 'bytes of a location with the shortest names' 0 short_names $((16 << 20)) $((64 << 20))
 rows 'bytes of open parentheses' 0 parentheses $((16 << 20)) $((64 << 20))
