@@ -47,6 +47,32 @@ schemas() {
   }'
 }
 
+# So many roles, databases, tablespaces, and labels of one enum.
+roles() {
+  awk -v most="$1" 'BEGIN { print "BOOTSTRAP p;"; for (n = 0; n < most; n++) printf "SET NEXT role %d;CREATE ROLE r%d;\n", 20000 + n, n }'
+}
+databases() {
+  awk -v most="$1" 'BEGIN { print "BOOTSTRAP p;"; for (n = 0; n < most; n++) printf "SET NEXT database %d;CREATE DATABASE d%d OWNER p;\n", 20000 + n, n }'
+}
+tablespaces() {
+  awk -v most="$1" 'BEGIN { print "BOOTSTRAP p;"; for (n = 0; n < most; n++) printf "SET NEXT tablespace %d;CREATE TABLESPACE t%d OWNER p LOCATION \047/%d\047;\n", 20000 + n, n, n }'
+}
+labels() {
+  awk -v most="$1" 'BEGIN { print "BOOTSTRAP p;CONNECT postgres;SET NEXT type 19999;CREATE ENUM public.e OWNER p;"; for (n = 0; n < most; n++) printf "SET NEXT label %d;ADD LABEL public.e \047%d\047;\n", 20000 + n, n }'
+}
+
+# So many tables of 1,600 columns.
+wide_tables() {
+  awk -v most="$1" 'BEGIN {
+    print "BOOTSTRAP p;CONNECT postgres;"
+    for (n = 0; n < most; n++) {
+      printf "SET NEXT type %d;SET NEXT table %d;SET NEXT table_file %d;CREATE TABLE public.t%d OWNER p TABLESPACE pg_default (", 20000 + n, 20000 + n, 20000 + n, n
+      for (k = 1; k < 1600; k++) printf "c%d oid,", k
+      print "z oid);"
+    }
+  }'
+}
+
 start='BOOTSTRAP postgres;CONNECT postgres;SET NEXT type 16384;SET NEXT table 16385;SET NEXT table_file 16385;SET NEXT index 16386;SET NEXT index_file 16386;SET NEXT tablespace 16387;'
 
 # So many bytes of a word over and over.
@@ -114,6 +140,11 @@ rows() {
 rows 'tables with toast tables and two indexes' 5 tables 5000 20000 33000
 rows 'tables without columns' 1 bare_tables 5000 20000
 rows 'schemas with the same two names' 2 schemas 1000 4000
+rows roles 0 roles 5000 20000
+rows databases 0 databases 5000 20000
+rows tablespaces 0 tablespaces 5000 20000
+rows 'labels of an enum' 0 labels 5000 20000
+rows 'tables of 1,600 columns' 0 wide_tables 250 1000
 rows 'bytes of columns' 0 columns $((16 << 20)) $((64 << 20))
 rows 'bytes of the shortest columns' 0 short_columns $((16 << 20)) $((64 << 20))
 rows 'bytes of keys' 0 keys $((16 << 20)) $((64 << 20))
